@@ -1,0 +1,9 @@
+pub mod Maps
+pub mod Bytes
+pub mod BytesLaws
+pub mod Xor
+pub mod Cut
+pub mod CutLaws
+pub mod Double
+pub mod DoubleLaws
+pub mod Additive

@@ -1,0 +1,5 @@
+pub mod Doubling
+pub mod DoublingLaws
+pub mod Tower
+pub mod TowerLaws
+pub mod Steps
