@@ -23,7 +23,7 @@ loaded-tail at room bs p block r s e w =
     let dl : length (drop (16 - room) (replicate {A = ℕ} 16 0)) ≡ 16 - (16 - room) = length-drop (16 - room) (replicate 16 0) in
     let rest : drop (16 - (16 - room)) (drop (16 - room) (replicate 16 0)) ≡ [] = drop-all (16 - (16 - room)) (drop (16 - room) (replicate 16 0)) (omega arith) in
     let b : block ≡ replicate (16 - room) 0 ++ p =
-        w ∙ ap₂ (λ (u v : List ℕ). u ++ (p ++ v)) front rest ∙ ap (λ (v : List ℕ). replicate (16 - room) 0 ++ v) (append-nil p) in
+    w ∙ ap₂ (λ (u v : List ℕ). u ++ (p ++ v)) front rest ∙ ap (λ (v : List ℕ). replicate (16 - room) 0 ++ v) (append-nil p) in
     let lb = length-append (replicate (16 - room) 0) p in
     let lz : length (replicate {A = ℕ} (16 - room) 0) ≡ 16 - room = length-replicate (16 - room) 0 in
     let l : length (replicate (16 - room) 0 ++ p) ≤ 16 = omega arith in
@@ -51,14 +51,14 @@ stored-tail at x room bs written p r s w e =
     let d = length-drop at bs in
     let q : p ≡ take (length bs - at) (bytesOf 16 x) = e ∙ ap₂ (λ (n : ℕ) (v : List ℕ). take n v) (omega arith) w in
     ap₂ (λ (u v : List ℕ). take at bs ++ (u ++ v)) q
-      (drop-all (length bs - at) (drop at bs) (omega arith) ∙ sym (drop-all (at + 16) bs (omega arith)))
+    (drop-all (length bs - at) (drop at bs) (omega arith) ∙ sym (drop-all (at + 16) bs (omega arith)))
 
 pub stored-none : (at x : ℕ) (bs : List ℕ) → length bs ≤ at → bs ≡ storedAt at x bs
 unfolding storedAt
 stored-none at x bs h =
     let z : length bs - at ≡ 0 = omega arith in
     sym (ap₂ (λ (u v : List ℕ). u ++ v) (take-all at bs h)
-      (ap₂ (λ (n : ℕ) (v : List ℕ). take n (bytesOf 16 x) ++ v) z (drop-all (at + 16) bs (omega arith)))
+    (ap₂ (λ (n : ℕ) (v : List ℕ). take n (bytesOf 16 x) ++ v) z (drop-all (at + 16) bs (omega arith)))
     ∙ append-nil bs)
 
 -- a piece at the start of a block of zeros, and a byte after it
@@ -82,8 +82,8 @@ pub filled-short : (b n : ℕ) (piece p block : List ℕ) → n ≡ length piece
 unfolding fillWith
 filled-short b n piece p block m h q e =
     let f : block ≡ take 16 (piece ++ b ∷ replicate 15 0) =
-        e ∙ ap (λ (v : List ℕ). set (v ++ drop n (replicate 16 0)) n b) (q ∙ take-all n piece (omega arith))
-        ∙ ap (λ (k : ℕ). set (piece ++ drop k (replicate 16 0)) k b) m ∙ fill-short b piece (omega arith) in
+    e ∙ ap (λ (v : List ℕ). set (v ++ drop n (replicate 16 0)) n b) (q ∙ take-all n piece (omega arith))
+    ∙ ap (λ (k : ℕ). set (piece ++ drop k (replicate 16 0)) k b) m ∙ fill-short b piece (omega arith) in
     ap numberOf (ap (take 16) f ∙ take-all 16 (take 16 (piece ++ b ∷ replicate 15 0)) (let l = long-enough b piece in omega arith))
 
 pub filled-long : (b n : ℕ) (piece p rest block : List ℕ) → n ≡ 16 → 16 ≤ length piece → p ≡ take n piece → block ≡ p ++ rest → blockAt 0 block ≡ fillWith b piece
@@ -92,4 +92,4 @@ filled-long b n piece p rest block m h q e =
     let l = length-take-le 16 piece h in
     let q′ : p ≡ take 16 piece = q ∙ ap (λ (k : ℕ). take k piece) m in
     ap numberOf
-      (ap (take 16) (e ∙ ap (λ (v : List ℕ). v ++ rest) q′) ∙ take-at (take 16 piece) rest 16 l ∙ sym (take-append-le 16 piece (b ∷ replicate 15 0) h))
+    (ap (take 16) (e ∙ ap (λ (v : List ℕ). v ++ rest) q′) ∙ take-at (take 16 piece) rest 16 l ∙ sym (take-append-le 16 piece (b ∷ replicate 15 0) h))

@@ -148,7 +148,6 @@ take-xor (suc n) [] ys = refl
 take-xor (suc n) (x ∷ xs) [] = refl
 take-xor (suc n) (x ∷ xs) (y ∷ ys) = ap (λ (v : List ℕ). bitXor x y ∷ v) (take-xor n xs ys)
 
-
 -- zeros in front say nothing
 pub zeros-first : (n : ℕ) (bs : List ℕ) → numberOf (replicate n 0 ++ bs) ≡ numberOf bs
 zeros-first zero bs = refl

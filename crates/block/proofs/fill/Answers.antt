@@ -13,9 +13,9 @@ returns c =
       | then-n-lt16 w ↦
           c .load-whole .ensures
           ∙ filled-short (c .args .byte) (c .min-n .result) (c .args .piece .now) (c .copy-from-slice .last .self) (c .if-n-lt16 .block)
-              (omega arith) (w .if-n-lt16 .taken) (simp sub-zero at (c .copy-from-slice .ensures .after)) (simp sub-zero at (w .block-is))
+          (omega arith) (w .if-n-lt16 .taken) (simp sub-zero at (c .copy-from-slice .ensures .after)) (simp sub-zero at (w .block-is))
       | else-n-lt16 w ↦
           c .load-whole .ensures
           ∙ filled-long (c .args .byte) (c .min-n .result) (c .args .piece .now) (c .copy-from-slice .last .self) _ (c .if-n-lt16 .block)
-              (omega arith) (omega arith) (simp sub-zero at (c .copy-from-slice .ensures .after)) (w .block-is)
+          (omega arith) (omega arith) (simp sub-zero at (c .copy-from-slice .ensures .after)) (w .block-is)
     ]

@@ -19,7 +19,7 @@ unfolding bytesOf
 returns-then-room-gt0 c =
     let e : c .to-be-bytes-written .result ≡ bytesOf 16 (c .args .block) = simp div-one (c .to-be-bytes-written .ensures) in
     stored-tail (c .args .at) (c .args .block) (c .saturating-sub-room .result) (c .args .bytes .now) (c .to-be-bytes-written .result) (c .copy-from-slice-then-room-gt0 .last .self)
-      (omega arith) (c .if-room-ge16 .left) e (c .copy-from-slice-then-room-gt0 .ensures .after)
+    (omega arith) (c .if-room-ge16 .left) e (c .copy-from-slice-then-room-gt0 .ensures .after)
 
 pub returns-else-room-gt0 : need.returns-else-room-gt0
 returns-else-room-gt0 c = stored-none (c .args .at) (c .args .block) (c .args .bytes .now) (omega arith)

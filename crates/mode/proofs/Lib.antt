@@ -1,0 +1,4 @@
+mod Loops
+mod Bodies
+mod Headers
+mod Whole

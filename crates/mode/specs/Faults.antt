@@ -1,0 +1,16 @@
+-- The number, the place and the layer of each refusal of a mode.
+use Prim.Native.Nat.{ℕ}
+use Rattle.layer.specs.declared.Layer.{Layer}
+use Rattle.layer.specs.declared.Layer.the-variants.{Mode}
+use Rattle.mode.specs.declared.fault.ModeFault.{ModeFault}
+use Rattle.mode.specs.declared.fault.ModeFault.the-variants.{OutputLength, NotSealed}
+
+abbrev pub numberOf : ModeFault → ℕ
+numberOf OutputLength = 1
+numberOf NotSealed = 2
+
+abbrev pub placeOf : ModeFault → ℕ
+placeOf fault = 0
+
+abbrev pub layerOf : ModeFault → Layer
+layerOf fault = Mode

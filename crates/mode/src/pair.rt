@@ -1,0 +1,267 @@
+// A cipher and a masking together, and what they seal and open.
+ghost use mathlib.Core.Path.{_≡_};
+ghost use Prim.Native.Nat.{ℕ, _+_, _*_, _≤_};
+ghost use lib.Bits.{bitXor};
+ghost use lib.ListN.{length, take, drop};
+ghost use Rattle.block.specs.Bytes.{bytesOf, xorBytes};
+ghost use Rattle.block.specs.Cut.{before, fillWith};
+ghost use Rattle.masking.specs.Steps.{times};
+ghost use Rattle.mode.specs.Sealing.{deltaZero, deltaOne, kappa as kappaOf, closing, headerTag, sealing, sealedBytes, messageTag};
+ghost use Rattle.mode.specs.Pairs.{mapsOf};
+ghost use Rattle.mode.specs.Gives.{SealGives, BehindGives, OpenGives};
+ghost use Rattle.mode.specs.Stands.{Stands};
+ghost use Rattle.mode.specs.Body.{BlocksDone, BodyDone};
+use crate::fault::ModeFault;
+use crate::value::Mode;
+use block::Block;
+use block::Cut;
+use block::fill;
+use block::load;
+use block::store;
+use cipher::Cipher;
+use masking::Masking;
+
+// A cipher and a masking, lent whole to the modes.
+#[derive(Clone, Copy, Drop)]
+pub struct Pair<C, M> {
+    cipher: C,
+    masking: M,
+}
+
+// The fixed string, whose block the cipher gives first.
+const FIXED: Block = 1;
+
+// Writes a last piece with the pad added.
+fn xor_piece(piece: &[u8], pad: Block, out: &mut [u8])
+    requires { ⌜ length (now piece) ≤ 16 ⌝ ∗ ⌜ length (now out) ≡ length (now piece) ⌝ }
+    ensures { λ _. ⌜ now (out .exit) ≡ xorBytes (now (piece .entry)) (bytesOf 16 pad) ⌝ }
+{
+    let bytes = pad.to_be_bytes();
+    for i in 0..piece.len() {
+        out[i] = piece[i] ^ bytes[i];
+    }
+}
+
+// What comes of the body of a message: the sums of its blocks before the last as read and as written, and the last block's mask and pad.
+#[derive(Clone, Copy)]
+struct Body {
+    read: Block,
+    written: Block,
+    mask: Block,
+    pad: Block,
+}
+
+impl<C: Cipher, M: Masking> Pair<C, M> {
+    // A pair of the two. What the modes promise stands for every cipher and every masking that keep their laws.
+    pub fn new(cipher: C, masking: M) -> Pair<C, M>
+        ensures held { λ r. ⌜ (r .cipher ≡ cipher) × (r .masking ≡ masking) ⌝ }
+        ensures stands { λ r. ⌜ Stands (mapsOf forward backward onward inward r) ⌝ }
+    {
+        Pair { cipher, masking }
+    }
+
+    // A block through the mode's map.
+    fn sealing(&self, mode: Mode, block: Block) -> Block
+        ensures { λ r. ⌜ r ≡ sealing (mapsOf forward backward onward inward (now (self .entry))) mode block ⌝ }
+    {
+        match mode {
+            Mode::Forward => self.cipher.encrypt(block),
+            Mode::Dual => self.cipher.decrypt(block),
+        }
+    }
+
+    // Ciphers the blocks before the last; answers their sums, as read and as written, and the mask of the last of them.
+    fn cipher_blocks(
+        &self,
+        mode: Mode,
+        gamma: Block,
+        input: &[u8],
+        out: &mut [u8],
+    ) -> (Block, Block, Block)
+        requires { ⌜ length (now out) ≡ length (now input) ⌝ }
+        ensures { λ r. ⌜ BlocksDone (mapsOf forward backward onward inward (now (self .entry))) mode gamma (before (length (now (input .entry)))) (now (input .entry)) (now (out .entry)) (now (out .exit)) (r .0) (r .1) (r .2) ⌝ }
+    {
+        let n = Cut::of(input.len()).before;
+        let mut mask = gamma;
+        let mut read = 0;
+        let mut written = 0;
+        for i in 0..n {
+            mask = self.masking.step(mask);
+            let x = load(input, 16 * i);
+            let y = self.sealing(mode, x ^ mask) ^ mask;
+            store(out, 16 * i, y);
+            read ^= x;
+            written ^= y;
+        }
+        (read, written, mask)
+    }
+
+    // Ciphers a whole string of bytes: the blocks before the last by the mode's map, the last piece with the pad.
+    fn cipher_body(
+        &self,
+        mode: Mode,
+        delta_one: Block,
+        nonce: Block,
+        input: &[u8],
+        out: &mut [u8],
+    ) -> Body
+        requires { ⌜ «delta_one» ≡ deltaOne (mapsOf forward backward onward inward (now self)) ⌝ ∗ ⌜ length (now out) ≡ length (now input) ⌝ }
+        ensures { λ r. ⌜ BodyDone (mapsOf forward backward onward inward (now (self .entry))) mode nonce (now (input .entry)) (now (out .exit)) (r .read) (r .written) (r .mask) (r .pad) ⌝ }
+    {
+        let gamma = self.cipher.encrypt(nonce ^ delta_one);
+        let (read, written, last) = self.cipher_blocks(mode, gamma, input, out);
+        let cut = Cut::of(input.len());
+        let at = cut.at;
+        let mask = self.masking.step(last);
+        let pad = self.cipher.encrypt(cut.bits as Block ^ mask);
+        xor_piece(&input[at..], pad, &mut out[at..]);
+        Body {
+            read,
+            written,
+            mask,
+            pad,
+        }
+    }
+
+    // The message tag, from the sum of the message's blocks before the last and the last sealed piece.
+    fn tag_from(&self, delta_one: Block, mask: Block, pad: Block, sum: Block, piece: &[u8]) -> Block
+        requires { ⌜ length (now piece) ≤ 16 ⌝ }
+        ensures { λ r. ⌜ r ≡ forward (now (self .entry) .cipher) (bitXor (bitXor (bitXor (bitXor sum (fillWith 0 (now (piece .entry)))) (onward (now (self .entry) .masking) mask)) «delta_one») pad) ⌝ }
+    {
+        let block = fill(0, piece);
+        self.cipher
+            .encrypt(sum ^ block ^ self.masking.step(mask) ^ delta_one ^ pad)
+    }
+
+    // What is added to the last block of a header, after n blocks with the mask of the last of them.
+    fn closing(&self, n: usize, full: bool, kappa: Block, mask: Block) -> Block
+        requires { ⌜ kappa ≡ kappaOf (mapsOf forward backward onward inward (now self)) ⌝ ∗ ⌜ mask ≡ times (onward (now self .masking)) n kappa ⌝ }
+        ensures { λ r. ⌜ r ≡ closing (mapsOf forward backward onward inward (now (self .entry))) n full ⌝ }
+    {
+        if n == 0 {
+            let once = self.masking.back(kappa);
+            if full { self.masking.back(once) } else { once }
+        } else if full {
+            0
+        } else {
+            self.masking.step(mask)
+        }
+    }
+
+    // The tag of a header, where the cipher's block of the fixed string is known.
+    fn header_tag_from(&self, delta_zero: Block, header: &[u8]) -> Block
+        requires { ⌜ «delta_zero» ≡ deltaZero (mapsOf forward backward onward inward (now self)) ⌝ }
+        ensures { λ r. ⌜ r ≡ headerTag (mapsOf forward backward onward inward (now (self .entry))) (now (header .entry)) ⌝ }
+    {
+        if header.len() == 0 {
+            return 0;
+        }
+        let kappa = self.cipher.encrypt(delta_zero);
+        let n = Cut::of(header.len()).before;
+        let mut mask = kappa;
+        let mut sum = 0;
+        for i in 0..n {
+            mask = self.masking.step(mask);
+            let x = load(header, 16 * i);
+            sum ^= self.cipher.encrypt(x ^ mask);
+        }
+        let piece = &header[16 * n..];
+        let block = fill(0x80, piece);
+        let closing = self.closing(n, piece.len() == 16, kappa, mask);
+        self.cipher.encrypt(sum ^ block ^ closing)
+    }
+
+    // The tag of a header.
+    pub fn header_tag(&self, header: &[u8]) -> Block
+        ensures { λ r. ⌜ r ≡ headerTag (mapsOf forward backward onward inward (now (self .entry))) (now (header .entry)) ⌝ }
+    {
+        self.header_tag_from(self.cipher.encrypt(FIXED), header)
+    }
+
+    // Seals a message without its header, and answers the message tag.
+    fn seal_body(
+        &self,
+        mode: Mode,
+        delta_one: Block,
+        nonce: Block,
+        message: &[u8],
+        out: &mut [u8],
+    ) -> Block
+        requires { ⌜ «delta_one» ≡ deltaOne (mapsOf forward backward onward inward (now self)) ⌝ ∗ ⌜ length (now out) ≡ length (now message) ⌝ }
+        ensures bytes { λ _. ⌜ now (out .exit) ≡ sealedBytes (mapsOf forward backward onward inward (now (self .entry))) mode nonce (now (message .entry)) ⌝ }
+        ensures tag { λ r. ⌜ r ≡ messageTag (mapsOf forward backward onward inward (now (self .entry))) nonce (now (message .entry)) ⌝ }
+    {
+        let body = self.cipher_body(mode, delta_one, nonce, message, out);
+        let at = Cut::of(message.len()).at;
+        self.tag_from(delta_one, body.mask, body.pad, body.read, &out[at..])
+    }
+
+    // Seals a message into an output buffer of its length, and answers the tag.
+    pub fn seal(
+        &self,
+        mode: Mode,
+        nonce: Block,
+        header: &[u8],
+        message: &[u8],
+        out: &mut [u8],
+    ) -> Result<Block, ModeFault>
+        ensures { λ r. ⌜ SealGives (mapsOf forward backward onward inward (now (self .entry))) mode nonce (now (header .entry)) (now (message .entry)) (now (out .entry)) (now (out .exit)) r ⌝ }
+    {
+        if out.len() != message.len() {
+            return Err(ModeFault::OutputLength);
+        }
+        let delta_zero = self.cipher.encrypt(FIXED);
+        let delta_one = self.masking.step(delta_zero);
+        let tag = self.seal_body(mode, delta_one, nonce, message, out);
+        Ok(tag ^ self.header_tag_from(delta_zero, header))
+    }
+
+    // Seals a message into the bytes behind its header, which is the first bytes of the buffer; answers the tag.
+    pub fn seal_behind(
+        &self,
+        mode: Mode,
+        nonce: Block,
+        header_len: usize,
+        message: &[u8],
+        buf: &mut [u8],
+    ) -> Result<Block, ModeFault>
+        ensures { λ r. ⌜ BehindGives (mapsOf forward backward onward inward (now (self .entry))) mode nonce «header_len» (now (message .entry)) (now (buf .entry)) (now (buf .exit)) r ⌝ }
+    {
+        if header_len > buf.len() || buf.len() - header_len != message.len() {
+            return Err(ModeFault::OutputLength);
+        }
+        let delta_zero = self.cipher.encrypt(FIXED);
+        let delta_one = self.masking.step(delta_zero);
+        let header_tag = self.header_tag_from(delta_zero, &buf[0..header_len]);
+        let tag = self.seal_body(mode, delta_one, nonce, message, &mut buf[header_len..]);
+        Ok(tag ^ header_tag)
+    }
+
+    // Opens sealed bytes into an output buffer of their length, if a message seals to them and to the tag; else the buffer is zeroed.
+    pub fn open(
+        &self,
+        mode: Mode,
+        nonce: Block,
+        header: &[u8],
+        sealed: &[u8],
+        tag: Block,
+        out: &mut [u8],
+    ) -> Result<(), ModeFault>
+        ensures { λ r. ⌜ OpenGives (mapsOf forward backward onward inward (now (self .entry))) mode nonce (now (header .entry)) (now (sealed .entry)) tag (now (out .entry)) (now (out .exit)) r ⌝ }
+    {
+        if out.len() != sealed.len() {
+            return Err(ModeFault::OutputLength);
+        }
+        let delta_zero = self.cipher.encrypt(FIXED);
+        let delta_one = self.masking.step(delta_zero);
+        let body = self.cipher_body(mode.other(), delta_one, nonce, sealed, out);
+        let at = Cut::of(sealed.len()).at;
+        let own = self.tag_from(delta_one, body.mask, body.pad, body.written, &sealed[at..]);
+        let whole = own ^ self.header_tag_from(delta_zero, header);
+        if whole != tag {
+            out.fill(0);
+            return Err(ModeFault::NotSealed);
+        }
+        Ok(())
+    }
+}
