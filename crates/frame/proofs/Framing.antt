@@ -1,30 +1,20 @@
 -- What sealing into a frame leaves in the output.
-use mathlib.Core.Path.{_≡_, refl, sym, ap, ap₂, _∙_}
+use mathlib.Core.Path.{_≡_, sym, ap, ap₂, _∙_}
 use mathlib.Core.List.{List, [], _∷_, _++_, append-assoc}
-use Prim.Native.Nat.{ℕ, _+_, _-_, _≤_, _<_}
+use Prim.Native.Nat.{ℕ, _+_, _-_, _≤_}
 use native.Mathlib.Omega.{arith}
 use borrow.Rule.Slice.PartMut.{putMid}
-use lib.ListN.{length, take, drop, length-take, length-drop, length-append}
-use lib.Seq.{take-append-add, drop-append-add}
-use Rattle.std.proofs.shelf.Lists.{take-at, drop-at, take-take, drop-drop, drop-take, take-append-drop, length-take-le, take-append-le}
-use Rattle.block.specs.Bytes.{bytesOf, numberOf, blockAt, storedAt}
-use Rattle.block.specs.BytesLaws.{length-bytes, stored-whole}
+use lib.ListN.{length, take, drop, length-drop, length-append}
+use lib.Seq.{drop-append-add}
+use Rattle.std.proofs.shelf.Lists.{take-at, drop-at, take-take, drop-drop, take-append-drop}
+use Rattle.block.specs.Bytes.{bytesOf, blockAt, storedAt}
+use Rattle.block.specs.BytesLaws.{stored-whole}
 use Rattle.mode.specs.declared.value.Mode.{Mode}
 use Rattle.mode.specs.Sealing.{Maps, sealedBytes, tagOf}
 use Rattle.mode.specs.SealingLaws.{length-sealed}
 use Rattle.mode.specs.Gives.{Behind}
 use Rattle.frame.specs.Form.{headOf, headerFrom, frameOf}
-
-pub length-head : (mode : Mode) (h p sender number : ℕ) → length (headOf mode h p sender number) ≡ 32
-unfolding headOf bytesOf
-length-head mode h p sender number = refl
-
--- the nonce is read out of the first 32 bytes
-nonce-first : (xs ys : List ℕ) → 32 ≤ length xs → blockAt 16 (xs ++ ys) ≡ blockAt 16 xs
-nonce-first xs ys h =
-    let d = length-drop 16 xs in
-    ap numberOf
-    (sym (drop-take 16 16 (xs ++ ys)) ∙ ap (drop 16) (take-append-le 32 xs ys h) ∙ drop-take 16 16 xs)
+use Rattle.frame.specs.FormLaws.{length-head, nonce-first}
 
 module _ (w : Maps) (mode : Mode) (sender number : ℕ) (clear message was : List ℕ) (first second buf out : List ℕ) (nonce tag : ℕ)
     (room : 32 + length clear + length message + 16 ≤ length was)

@@ -1,25 +1,24 @@
 -- Opening over the parts of a frame is opening the frame.
 use mathlib.Core.Path.{_≡_, refl, sym, ap, ap₂, _∙_}
 use mathlib.Core.List.{List, [], _∷_, _++_}
-use Prim.Native.Nat.{ℕ, _+_, _-_, _≤_, _<_}
+use Prim.Native.Nat.{ℕ, _-_, _≤_}
 use native.Mathlib.Omega.{arith}
 use lib.ListN.{length, take, drop, replicate, length-take, length-drop}
-use Rattle.std.proofs.shelf.Lists.{take-at, drop-at, take-take, drop-take, take-all, length-take-le}
+use Rattle.std.proofs.shelf.Lists.{take-at, drop-at, take-all, length-take-le}
 use Rattle.std.specs.declared.result.Result.{Result}
 use Rattle.std.specs.declared.result.Result.the-variants.{Ok, Err}
 use Rattle.block.specs.Bytes.{numberOf, blockAt}
-use Rattle.mode.specs.declared.value.Mode.{Mode}
-use Rattle.mode.specs.declared.value.Mode.the-variants.{Forward, Dual}
 use Rattle.mode.specs.declared.fault.ModeFault.the-variants.{OutputLength, NotSealed}
-use Rattle.mode.specs.Values.{modeValue}
 use Rattle.mode.specs.Sealing.{Maps, Seals, sealedBytes, tagOf}
 use Rattle.mode.specs.SealingLaws.{length-sealed}
 use Rattle.frame.specs.declared.fault.FrameFault.{FrameFault}
 use Rattle.frame.specs.declared.fault.FrameFault.the-variants.{UnknownMode, ClearTooLong, MessageTooLong, OutputShort, FrameShort, BadField, FrameLength, Sealing}
 use Rattle.frame.specs.declared.pieces.FrameParts.{FrameParts}
-use Rattle.frame.specs.Fields.{modeByte, clearLength, sealedLength, sealedStart, tagStart}
-use Rattle.frame.specs.Form.{nonceOf, headerOf, sealedPart, tagPart, WellFormed, SealsTo}
-use Rattle.frame.specs.Gives.{PartsOf, SealsToParts, PartsOpened, PartsOpen, FrameOpens, Opened}
+use Rattle.frame.specs.Fields.{sealedLength, sealedStart, tagStart}
+use Rattle.frame.specs.ListLaws.{number-in}
+use Rattle.frame.specs.FormLaws.{modes-same}
+use Rattle.frame.specs.Form.{nonceOf, tagPart, SealsTo}
+use Rattle.frame.specs.Gives.{PartsOf, SealsToParts, PartsOpened, PartsOpen, FrameOpens}
 
 -- opening into the output's start
 pub parts-opened : (w : Maps) (p : FrameParts) (was opened : List ℕ) (nonce tag : ℕ) → length (p .sealed .bytes .now) ≤ length was
@@ -44,22 +43,9 @@ parts-opened w p was opened nonce tag room n t s =
           drop-at opened (drop (length (p .sealed .bytes .now) - 0) was) (length (p .sealed .bytes .now)) l ∙ ap (λ (m : ℕ). drop m was) z;
     }
 
-pub modes-same : (a b : Mode) → modeValue a ≡ modeValue b → a ≡ b
-modes-same Forward Forward e = refl
-modes-same Forward Dual e = absurd (omega arith)
-modes-same Dual Forward e = absurd (omega arith)
-modes-same Dual Dual e = refl
-
--- the nonce lies in the header
-nonce-in : (k : ℕ) (f : List ℕ) → 32 ≤ k → blockAt 16 (take k f) ≡ blockAt 16 f
-nonce-in k f h =
-    let e : k ≡ 16 + (k - 16) = omega arith in
-    ap numberOf
-    (ap (λ (m : ℕ). take 16 (drop 16 (take m f))) e ∙ ap (take 16) (drop-take 16 (k - 16) f) ∙ take-take 16 (k - 16) (drop 16 f) (omega arith))
-
 module _ (w : Maps) (f : List ℕ) (p : FrameParts) (o : PartsOf f p) where
   nonce-is : blockAt 16 (p .header .now) ≡ nonceOf f
-  nonce-is = ap (blockAt 16) (o .header-is) ∙ nonce-in (sealedStart f) f (let s = o .form .fields .0 .0 .0 .0 .1 in omega arith)
+  nonce-is = ap (blockAt 16) (o .header-is) ∙ number-in 16 16 (sealedStart f) f (let s = o .form .fields .0 .0 .0 .0 .1 in omega arith)
 
   tag-is : blockAt 0 (p .tag .bytes .now) ≡ numberOf (tagPart f)
   tag-is = ap numberOf (ap (take 16) (o .tag-is) ∙ take-all 16 (tagPart f) (let l = length-take 16 (drop (tagStart f) f) in omega arith))

@@ -127,20 +127,28 @@ module _ (w : Maps) (laws : Lawful w) where
   closing-fits (suc n) false = header-mask-fits (suc (suc n))
   closing-fits (suc n) true = omega arith
 
+  -- what the cipher makes a header's tag of
+  header-sum-fits : (v : List ℕ) → Bytes v → bitXor (bitXor (sumOf (headerBlock w) (before (length v)) v) (filled (lastOf v))) (closing w (before (length v)) (eqb (lastBits (length v)) 128)) < 2 ^ 128
+  header-sum-fits v h =
+      xor-lt 128 (bitXor (sumOf (headerBlock w) (before (length v)) v) (filled (lastOf v))) (closing w (before (length v)) (eqb (lastBits (length v)) 128))
+      (xor-lt 128 (sumOf (headerBlock w) (before (length v)) v) (filled (lastOf v)) (sum-fits (headerBlock w) header-block-fits (before (length v)) v h)
+      (fill-fits 0x80 (lastOf v) (omega arith) (bytes-drop (16 * before (length v)) v h)))
+      (closing-fits (before (length v)) (eqb (lastBits (length v)) 128))
+
   some-header-tells : (xs ys : List ℕ) → Bytes xs → Bytes ys → OneBlock xs ys → someHeaderTag w xs ≡ someHeaderTag w ys → ⊥
   unfolding someHeaderTag
   some-header-tells xs ys hx hy o e =
       let inner : List ℕ → ℕ = λ v. bitXor (sumOf (headerBlock w) (before (length v)) v) (filled (lastOf v)) in
       let close : ℕ → ℕ = λ l. closing w (before l) (eqb (lastBits l) 128) in
-      let inner-fits : (v : List ℕ) → Bytes v → inner v < 2 ^ 128 =
-      λ v h. xor-lt 128 (sumOf (headerBlock w) (before (length v)) v) (filled (lastOf v)) (sum-fits (headerBlock w) header-block-fits (before (length v)) v h)
-      (fill-fits 0x80 (lastOf v) (omega arith) (bytes-drop (16 * before (length v)) v h)) in
-      let fits : (v : List ℕ) → Bytes v → bitXor (inner v) (close (length v)) < 2 ^ 128 =
-      λ v h. xor-lt 128 (inner v) (close (length v)) (inner-fits v h) (closing-fits (before (length v)) (eqb (lastBits (length v)) 128)) in
       let f : bitXor (inner xs) (close (length xs)) ≡ bitXor (inner ys) (close (length ys)) =
-      undo-same (w .forward) (w .backward) (laws .cipher) (bitXor (inner xs) (close (length xs))) (bitXor (inner ys) (close (length ys))) (fits xs hx) (fits ys hy) e in
+      undo-same (w .forward) (w .backward) (laws .cipher) (bitXor (inner xs) (close (length xs))) (bitXor (inner ys) (close (length ys))) (header-sum-fits xs hx) (header-sum-fits ys hy) e in
       sum-tells (headerBlock w) header-block-same 0x80 (omega arith) xs ys hx hy o
       (xor-cancel-right (inner xs) (inner ys) (close (length xs)) (f ∙ ap (λ (l : ℕ). bitXor (inner ys) (close l)) (sym (o .long))))
+
+  header-tag-fits : (header : List ℕ) → Bytes header → headerTag w header < 2 ^ 128
+  unfolding headerTag someHeaderTag
+  header-tag-fits [] h = omega arith
+  header-tag-fits (b ∷ bs) h = laws .cipher .there-fits _ (header-sum-fits (b ∷ bs) h)
 
   pub header-tells : (xs ys : List ℕ) → Bytes xs → Bytes ys → OneBlock xs ys → headerTag w xs ≡ headerTag w ys → ⊥
   unfolding headerTag
@@ -220,6 +228,27 @@ module _ (w : Maps) (laws : Lawful w) where
         laws .cipher .there-fits (bitXor (lastBits len) (times (w .step) (blockCount len) (gamma w nonce)))
         (xor-lt 128 (lastBits len) (times (w .step) (blockCount len) (gamma w nonce)) (omega arith) (mask-fits (blockCount len)))
 
+    -- what the cipher makes a message's tag of
+    message-sum-fits : (len sum : ℕ) (piece : List ℕ) → sum < 2 ^ 128 → Bytes piece
+        → bitXor (bitXor (bitXor (bitXor sum (zeroFilled piece)) (times (w .step) (blockCount len + 1) (gamma w nonce))) (deltaOne w)) (padOf w nonce len) < 2 ^ 128
+    message-sum-fits len sum piece small h =
+        let filling : zeroFilled piece < 2 ^ 128 = fill-fits 0 piece (omega arith) h in
+        xor-lt 128 (bitXor (bitXor (bitXor sum (zeroFilled piece)) (times (w .step) (blockCount len + 1) (gamma w nonce))) (deltaOne w)) (padOf w nonce len)
+        (xor-lt 128 (bitXor (bitXor sum (zeroFilled piece)) (times (w .step) (blockCount len + 1) (gamma w nonce))) (deltaOne w)
+        (xor-lt 128 (bitXor sum (zeroFilled piece)) (times (w .step) (blockCount len + 1) (gamma w nonce)) (xor-lt 128 sum (zeroFilled piece) small filling) (mask-fits (blockCount len + 1))) delta-fits)
+        (pad-fits len)
+
+    -- a tag is a block
+    pub tag-fits : (header message : List ℕ) → Bytes header → Bytes message → tagOf w nonce header message < 2 ^ 128
+    unfolding tagOf messageTag tagFrom
+    tag-fits header message h k =
+        let piece : List ℕ = xorBytes (lastOf message) (bytesOf 16 (padOf w nonce (length message))) in
+        xor-lt 128 (messageTag w nonce message) (headerTag w header)
+        (laws .cipher .there-fits _
+        (message-sum-fits (length message) (sumOf (λ i x. x) (before (length message)) message) piece (sum-fits (λ i x. x) (λ i x f. f) (before (length message)) message k)
+        (bytes-xor (lastOf message) (bytesOf 16 (padOf w nonce (length message))) (bytes-drop (16 * before (length message)) message k) (bytes-of 16 (padOf w nonce (length message))))))
+        (header-tag-fits header h)
+
     sealed-tells : (mode : Mode) (xs ys : List ℕ) → Bytes xs → Bytes ys → OneBlock xs ys
         → tagFrom w nonce (length xs) (sumOf (masked w (opening w mode) (gamma w nonce)) (before (length xs)) xs) (lastOf xs)
         ≡ tagFrom w nonce (length ys) (sumOf (masked w (opening w mode) (gamma w nonce)) (before (length ys)) ys) (lastOf ys) → ⊥
@@ -229,16 +258,9 @@ module _ (w : Maps) (laws : Lawful w) where
         let inner : List ℕ → ℕ = λ v. bitXor (sumOf g (before (length v)) v) (zeroFilled (lastOf v)) in
         let mask : ℕ → ℕ = λ l. times (w .step) (blockCount l + 1) (gamma w nonce) in
         let outer : List ℕ → ℕ → ℕ = λ v l. bitXor (bitXor (bitXor (inner v) (mask l)) (deltaOne w)) (padOf w nonce l) in
-        let inner-fits : (v : List ℕ) → Bytes v → inner v < 2 ^ 128 =
-        λ v h. xor-lt 128 (sumOf g (before (length v)) v) (zeroFilled (lastOf v))
-        (sum-fits g (masked-fits (opening w mode) (sealing w mode) (undone mode)) (before (length v)) v h)
-        (fill-fits 0 (lastOf v) (omega arith) (bytes-drop (16 * before (length v)) v h)) in
         let outer-fits : (v : List ℕ) → Bytes v → outer v (length v) < 2 ^ 128 =
-        λ v h.
-        xor-lt 128 (bitXor (bitXor (inner v) (mask (length v))) (deltaOne w)) (padOf w nonce (length v))
-        (xor-lt 128 (bitXor (inner v) (mask (length v))) (deltaOne w)
-        (xor-lt 128 (inner v) (mask (length v)) (inner-fits v h) (mask-fits (blockCount (length v) + 1))) delta-fits)
-        (pad-fits (length v)) in
+        λ v h. message-sum-fits (length v) (sumOf g (before (length v)) v) (lastOf v)
+        (sum-fits g (masked-fits (opening w mode) (sealing w mode) (undone mode)) (before (length v)) v h) (bytes-drop (16 * before (length v)) v h) in
         let f : outer xs (length xs) ≡ outer ys (length ys) =
         undo-same (w .forward) (w .backward) (laws .cipher) (outer xs (length xs)) (outer ys (length ys)) (outer-fits xs hx) (outer-fits ys hy) e in
         let f′ : outer xs (length xs) ≡ outer ys (length xs) = f ∙ ap (outer ys) (sym (o .long)) in
