@@ -1,3 +1,3 @@
 mod Reading
-mod Opening
+pub mod Opening
 mod Framing

@@ -1,0 +1,3 @@
+mod Opens
+mod Runs
+mod Places

@@ -1,0 +1,132 @@
+// The making of a station and the four calls on it.
+ghost use mathlib.Core.Path.{_≡_};
+ghost use Rattle.mode.specs.Pairs.{mapsOf};
+ghost use Rattle.station.specs.Events.{Reserve, GiveUp, Seal, Open};
+ghost use Rattle.station.specs.Steps.{Step, Founds};
+ghost use Rattle.station.specs.Laws.{Lasts};
+use super::Opened;
+use super::Peer;
+use super::Station;
+use super::Ticket;
+use crate::fault::StationFault;
+use crate::fault::StationFaultFromFrame;
+use cipher::Cipher;
+use masking::Masking;
+use mode::Pair;
+
+// The last frame number, 2^48 - 1.
+const LAST: u64 = 281_474_976_710_655;
+
+impl<C: Cipher, M: Masking> Station<C, M> {
+    // A station over a cipher and a masking, with its own id, its peer's, the first number that it hands out, and the floor above which it opens.
+    // Whatever list of calls is then made on it keeps the laws.
+    pub fn new(
+        pair: Pair<C, M>,
+        own: u8,
+        peer: u8,
+        start: u64,
+        floor: u64,
+    ) -> Result<Station<C, M>, StationFault>
+    where
+        C: Drop,
+        M: Drop,
+        ensures founds { λ r. ⌜ Founds pair own peer start floor r ⌝ }
+        ensures lasts { λ r. ⌜ Lasts (mapsOf (C·Cipher .forward) (C·Cipher .backward) (M·Masking .onward) (M·Masking .inward)) pair peer floor r ⌝ }
+    {
+        if own == peer {
+            return Err(StationFault::SameId);
+        }
+        if start == 0 || start > LAST || floor > LAST {
+            return Err(StationFault::BadNumber);
+        }
+        Ok(Station {
+            pair,
+            own,
+            peer: Peer {
+                id: peer,
+                highest: floor,
+            },
+            next: start,
+            out: None,
+            reserved: 0,
+            sealed: 0,
+            written_off: 0,
+        })
+    }
+
+    // Hands out the next number on a ticket. A number that is still out is written off.
+    pub fn reserve(&mut self) -> Result<Ticket, StationFault>
+        ensures { λ r. ⌜ Step (mapsOf (C·Cipher .forward) (C·Cipher .backward) (M·Masking .onward) (M·Masking .inward)) (now (self .entry)) (Reserve r) (now (self .exit)) ⌝ }
+    {
+        if self.next > LAST {
+            return Err(StationFault::Exhausted);
+        }
+        if self.out.is_some() {
+            self.written_off += 1;
+        }
+        let number = self.next;
+        self.out = Some(number);
+        self.next = number + 1;
+        self.reserved += 1;
+        Ok(Ticket {
+            id: self.own,
+            number,
+        })
+    }
+
+    // Writes off the number of a ticket.
+    pub fn give_up(&mut self, ticket: Ticket) -> Result<(), StationFault>
+        ensures { λ r. ⌜ Step (mapsOf (C·Cipher .forward) (C·Cipher .backward) (M·Masking .onward) (M·Masking .inward)) (now (self .entry)) (GiveUp ticket r) (now (self .exit)) ⌝ }
+    {
+        let Ticket { id, number } = ticket;
+        if id != self.own || self.out != Some(number) {
+            return Err(StationFault::NotOut);
+        }
+        self.out = None;
+        self.written_off += 1;
+        Ok(())
+    }
+
+    // Seals a message under a ticket's number into a frame at the output's start, and answers its length.
+    pub fn seal(
+        &mut self,
+        ticket: Ticket,
+        mode: u8,
+        clear: &[u8],
+        message: &[u8],
+        out: &mut [u8],
+    ) -> Result<usize, StationFault>
+        ensures { λ r. ⌜ Step (mapsOf (C·Cipher .forward) (C·Cipher .backward) (M·Masking .onward) (M·Masking .inward)) (now (self .entry)) (Seal ticket mode (now (clear .entry)) (now (message .entry)) (now (out .entry)) (now (out .exit)) r) (now (self .exit)) ⌝ }
+    {
+        let Ticket { id, number } = ticket;
+        if id != self.own || self.out != Some(number) {
+            return Err(StationFault::NotOut);
+        }
+        let answer = frame::seal(&self.pair, self.own, number, mode, clear, message, out);
+        self.out = None;
+        if answer.is_ok() {
+            self.sealed += 1;
+        } else {
+            self.written_off += 1;
+        }
+        let length = answer?;
+        Ok(length)
+    }
+
+    // Opens a frame of the peer, with a number above the highest, into the output's start.
+    pub fn open(&mut self, frame: &[u8], out: &mut [u8]) -> Result<Opened, StationFault>
+        ensures { λ r. ⌜ Step (mapsOf (C·Cipher .forward) (C·Cipher .backward) (M·Masking .onward) (M·Masking .inward)) (now (self .entry)) (Open (now (frame .entry)) (now (out .entry)) (now (out .exit)) r) (now (self .exit)) ⌝ }
+    {
+        let parts = frame::parts(frame)?;
+        if parts.sender != self.peer.id {
+            return Err(StationFault::UnknownSender);
+        }
+        let number = parts.number;
+        if number <= self.peer.highest {
+            return Err(StationFault::NotAbove);
+        }
+        let length = parts.open(&self.pair, out)?;
+        self.peer.highest = number;
+        Ok(Opened { length, number })
+    }
+}
