@@ -2,7 +2,12 @@
 ghost use mathlib.Core.Path.{_≡_};
 ghost use Prim.Native.Nat.{ℕ};
 ghost use Rattle.block.specs.Maps.{Undo, same, undo-same, undo-swap};
+
+mod speck;
+
 use block::Block;
+pub use speck::Speck;
+pub use speck::SpeckCipher;
 
 // A block cipher under one key. Forward and backward are its two maps; the laws say that each undoes the other for every block.
 pub trait Cipher {
