@@ -5,6 +5,7 @@ ghost use Prim.Native.Nat.{ℕ};
 ghost use Rattle.block.specs.Maps.{Undo, same, undo-same};
 ghost use Rattle.masking.specs.Doubling.{doubled, undoubled};
 ghost use Rattle.masking.specs.DoublingLaws.{doubling-undo};
+ghost use Rattle.masking.specs.Steps.{Γ, StepsAdd};
 ghost use Rattle.masking.specs.Tower.{word3, word2, word1, word0, fromWords, alpha, alphaBack, towerStep, towerBack};
 ghost use Rattle.masking.specs.TowerLaws.{tower-undo};
 use block::Block;
@@ -70,6 +71,22 @@ pub fn there_and_back<M: Masking>(masking: &M, block: Block) -> Block
     ensures { λ r. ⌜ r ≡ block ⌝ }
 {
     masking.back(masking.step(block))
+}
+
+// A block after i steps, or after -i backs where i is negative: as the laws have it, i steps and j more are i + j.
+pub fn steps<M: Masking>(masking: &M, block: Block, i: i64) -> Block
+    ensures reached { λ r. ⌜ r ≡ Γ (M·Masking .onward (now (masking .entry))) (M·Masking .inward (now (masking .entry))) block i ⌝ }
+    ensures add { λ _. ⌜ StepsAdd (M·Masking .onward (now (masking .entry))) (M·Masking .inward (now (masking .entry))) ⌝ }
+{
+    let mut reached = block;
+    for _ in 0..i.unsigned_abs() {
+        reached = if i < 0 {
+            masking.back(reached)
+        } else {
+            masking.step(reached)
+        };
+    }
+    reached
 }
 
 const WORD: u128 = 0x1_0000_0000;
