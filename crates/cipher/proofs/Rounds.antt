@@ -8,8 +8,8 @@ use lib.Bits.{bitOr, or-shifted, or-shifted-r}
 use lib.ListN.{length, getD, take, drop, set, replicate, length-set}
 use lib.Seq.{take-suc, drop-cons, take-suc-set}
 use Rattle.std.proofs.shelf.Lists.{take-all, drop-all, append-nil}
-use Rattle.cipher.specs.Speck.{leftOf, rightOf, joined, rotateRight, rotateLeft, newLeft, newRight, round, oldLeft, oldRight, roundBack, encrypted, decrypted, nextKeys, keysFrom}
-use Rattle.cipher.specs.SpeckLaws.{right-joined, joined-parts, round-joined, back-joined, left-fits, right-fits, old-left-fits, old-right-fits}
+use Rattle.cipher.specs.Speck.{rightOf, joined, rotateRight, rotateLeft, newLeft, newRight, round, oldLeft, oldRight, roundBack, encrypted, decrypted, nextKeys, keysFrom}
+use Rattle.cipher.specs.SpeckLaws.{right-joined, round-joined, back-joined, left-fits, right-fits, old-left-fits, old-right-fits}
 
 -- a word cut in two and swapped
 module _ (w : ℕ) (h : w < 2 ^ 64) where
@@ -41,12 +41,12 @@ Ahead ks b i x y = (x < 2 ^ 64) × (y < 2 ^ 64) × (encrypted (drop i ks) (joine
 abbrev pub Behind : List ℕ → ℕ → ℕ → ℕ → ℕ → Type 0
 Behind ks b i x y = (x < 2 ^ 64) × (y < 2 ^ 64) × (decrypted (take i ks) (joined x y) ≡ decrypted ks b)
 
-module _ (ks : List ℕ) (b x y : ℕ) (e : x ≡ leftOf b) (f : y ≡ rightOf b) (h : b < 2 ^ 128) where
-  pub ahead-first : Ahead ks b 0 x y
-  ahead-first = (omega arith, omega arith, ap (encrypted ks) (ap₂ joined e f ∙ joined-parts b))
+module _ (ks : List ℕ) (x y : ℕ) (hx : x < 2 ^ 64) (hy : y < 2 ^ 64) where
+  pub ahead-first : Ahead ks (joined x y) 0 x y
+  ahead-first = (hx, hy, refl)
 
-  pub behind-first : (n : ℕ) → length ks ≤ n → Behind ks b n x y
-  behind-first n l = (omega arith, omega arith, ap₂ decrypted (take-all n ks l) (ap₂ joined e f ∙ joined-parts b))
+  pub behind-first : (n : ℕ) → length ks ≤ n → Behind ks (joined x y) n x y
+  behind-first n l = (hx, hy, ap (λ (v : List ℕ). decrypted v (joined x y)) (take-all n ks l))
 
 module _ (ks : List ℕ) (fit : (i : ℕ) → getD ks i 0 < 2 ^ 64) (b i x y x′ y′ : ℕ) where
   pub ahead-more : i < length ks → x′ ≡ newLeft (getD ks i 0) x y → y′ ≡ newRight x′ y → Ahead ks b i x y → Ahead ks b (i + 1) x′ y′

@@ -1,7 +1,7 @@
 // Block ciphers, by what they mean: two maps on blocks that undo each other.
 ghost use mathlib.Core.Path.{_≡_};
 ghost use Prim.Native.Nat.{ℕ};
-ghost use Rattle.block.specs.Maps.{Undo, same, undo-same, undo-swap};
+ghost use Rattle.block.specs.Maps.{IsBlock, Undo, same, undo-same, undo-swap};
 
 mod speck;
 
@@ -66,9 +66,16 @@ pub impl<C: Cipher> Cipher for Inverse<C> as InverseCipher {
     }
 }
 
+// The block that was encrypted.
+fn undo<C: Cipher>(cipher: &C, encrypted: Block) -> Block
+    ensures { λ r. ⌜ ((x : ℕ) → IsBlock x → encrypted ≡ C·Cipher .forward (now (cipher .entry)) x → r ≡ x) ⌝ }
+{
+    cipher.decrypt(encrypted)
+}
+
 // Encrypts a block and decrypts it again: the block, whatever the cipher.
 pub fn there_and_back<C: Cipher>(cipher: &C, block: Block) -> Block
     ensures { λ r. ⌜ r ≡ block ⌝ }
 {
-    cipher.decrypt(cipher.encrypt(block))
+    undo(cipher, cipher.encrypt(block))
 }

@@ -2,7 +2,7 @@
 ghost use mathlib.Core.Path.{_≡_};
 ghost use Prim.Native.Nat.{ℕ, _<_, _^_};
 ghost use lib.ListN.{getD};
-ghost use Rattle.cipher.specs.Speck.{leftOf, rightOf, joined, newLeft, newRight, oldLeft, oldRight, encrypted, decrypted, roundKeys};
+ghost use Rattle.cipher.specs.Speck.{leftOf, rightOf, joined, newLeft, newRight, oldLeft, oldRight, encrypted, decrypted, keysFrom, roundKeys};
 ghost use Rattle.cipher.specs.SpeckLaws.{speck-undo};
 use super::Cipher;
 use block::Block;
@@ -20,6 +20,7 @@ impl Words {
     fn of(block: Block) -> Words
         ensures left { λ r. ⌜ r .left ≡ leftOf block ⌝ }
         ensures right { λ r. ⌜ r .right ≡ rightOf block ⌝ }
+        ensures whole { λ r. ⌜ joined (r .left) (r .right) ≡ block ⌝ }
     {
         Words {
             left: (block >> 64) as u64,
@@ -54,25 +55,55 @@ impl Words {
     }
 }
 
+// The round keys: the key's right word, and then the right word after each round whose key is the round's number.
+fn expand(key: Block) -> [u64; ROUNDS]
+    ensures keys { λ r. ⌜ r ≡ keysFrom key ⌝ }
+    ensures fit { λ r. ⌜ ((i : ℕ) → getD r i 0 < 2 ^ 64) ⌝ }
+{
+    let mut words = Words::of(key);
+    let mut keys = [words.right; ROUNDS];
+    for i in 0..ROUNDS - 1 {
+        words = words.round(i as u64);
+        keys[i + 1] = words.right;
+    }
+    keys
+}
+
 // Speck128/128 under one key, expanded once.
 #[derive(Drop)]
 pub struct Speck {
-    keys: [u64; 32],
+    keys: [u64; ROUNDS],
     ghost fit: { (i : ℕ) → getD keys i 0 < 2 ^ 64 },
 }
 
 impl Speck {
-    // The key's right word is the first round key; each further one takes a round whose key is its number.
+    // The cipher under a key of 16 bytes.
     pub fn new(key: [u8; 16]) -> Speck
         ensures { λ r. ⌜ r .keys ≡ roundKeys key ⌝ }
     {
-        let mut words = Words::of(block::load(&key, 0));
-        let mut keys = [words.right; ROUNDS];
-        for i in 0..ROUNDS - 1 {
-            words = words.round(i as u64);
-            keys[i + 1] = words.right;
+        Speck {
+            keys: expand(block::load(&key, 0)),
         }
-        Speck { keys }
+    }
+
+    // Each round, the first key first.
+    fn rounds(&self, mut words: Words) -> Words
+        ensures { λ r. ⌜ joined (r .left) (r .right) ≡ encrypted (now (self .entry) .keys) (joined (words .left) (words .right)) ⌝ }
+    {
+        for i in 0..ROUNDS {
+            words = words.round(self.keys[i]);
+        }
+        words
+    }
+
+    // Each round back, the last key first.
+    fn rounds_back(&self, mut words: Words) -> Words
+        ensures { λ r. ⌜ joined (r .left) (r .right) ≡ decrypted (now (self .entry) .keys) (joined (words .left) (words .right)) ⌝ }
+    {
+        for i in (0..ROUNDS).rev() {
+            words = words.round_back(self.keys[i]);
+        }
+        words
     }
 }
 
@@ -84,18 +115,10 @@ pub impl Cipher for Speck as SpeckCipher {
     ghost laws = { λ c. speck-undo (c .keys) (c .fit) };
 
     fn encrypt(&self, block: Block) -> Block {
-        let mut words = Words::of(block);
-        for i in 0..ROUNDS {
-            words = words.round(self.keys[i]);
-        }
-        words.block()
+        self.rounds(Words::of(block)).block()
     }
 
     fn decrypt(&self, block: Block) -> Block {
-        let mut words = Words::of(block);
-        for i in (0..ROUNDS).rev() {
-            words = words.round_back(self.keys[i]);
-        }
-        words.block()
+        self.rounds_back(Words::of(block)).block()
     }
 }

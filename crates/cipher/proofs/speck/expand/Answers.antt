@@ -1,9 +1,8 @@
-use mathlib.Core.Path.{ap, ap₂, _∙_}
+use mathlib.Core.Path.{ap, _∙_}
 use native.Mathlib.Omega.{arith}
 use Rattle.cipher.specs.Speck.{joined, keysFrom}
-use Rattle.cipher.specs.SpeckLaws.{joined-parts}
 use Rattle.cipher.proofs.Rounds.{expanding-first, expanding-more, expanding-done, expanded-fit}
-use Rattle.cipher.proofs.speck.Speck.new.Needs as need
+use Rattle.cipher.proofs.speck.expand.Needs as need
 
 pub loop-i-holds : need.loop-i-holds
 loop-i-holds c = expanding-first (c .of-words .result .left) (c .of-words .result .right) (omega arith) (omega arith)
@@ -14,15 +13,14 @@ loop-i-again c =
     (c .round-words .result .left) (c .round-words .result .right) (c .loop-i .keys)
     (c .loop-i-test .taken) (c .round-words .ensures .left) (c .round-words .ensures .right) (c .loop-i .inv)
 
-pub ghost-result : need.ghost-result
-ghost-result c = (
-  expanded-fit (joined (c .of-words .result .left) (c .of-words .result .right)) (c .loop-i .i) (c .loop-i .words .left) (c .loop-i .words .right)
-      (c .loop-i .keys) (omega arith) (c .loop-i .inv),
-  tt,
-)
-
 pub returns : need.returns
 returns c =
-    expanding-done (joined (c .of-words .result .left) (c .of-words .result .right)) (c .loop-i .i) (c .loop-i .words .left) (c .loop-i .words .right)
-    (c .loop-i .keys) (omega arith) (c .loop-i .inv)
-    ∙ ap keysFrom (ap₂ joined (c .of-words .ensures .left) (c .of-words .ensures .right) ∙ joined-parts (c .load .result) ∙ c .load .ensures)
+    record {
+      keys =
+          expanding-done (joined (c .of-words .result .left) (c .of-words .result .right)) (c .loop-i .i) (c .loop-i .words .left) (c .loop-i .words .right)
+          (c .loop-i .keys) (omega arith) (c .loop-i .inv)
+          ∙ ap keysFrom (c .of-words .ensures .whole);
+      fit =
+          expanded-fit (joined (c .of-words .result .left) (c .of-words .result .right)) (c .loop-i .i) (c .loop-i .words .left) (c .loop-i .words .right)
+          (c .loop-i .keys) (omega arith) (c .loop-i .inv);
+    }

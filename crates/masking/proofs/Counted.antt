@@ -1,4 +1,4 @@
--- The way to a whole number of steps, counted.
+-- The way to a whole number of steps, step by step.
 use mathlib.Core.Path.{_≡_, refl, sym, ap, _∙_}
 use mathlib.Core.Bool.{true, false}
 use Prim.Native.Nat.{ℕ, zero, suc, _+_}

@@ -1,15 +1,14 @@
-use mathlib.Core.Path.{_≡_, ap, _∙_}
+use mathlib.Core.Path.{ap, _∙_}
 use lib.IntN.{ℤ}
 use Prim.Native.Nat.{ℕ}
 use native.Mathlib.Omega.{arith}
 use mir.Syntax.{w64}
 use mir.Val.{toZ, ofZ}
 use Rattle.std.proofs.shelf.Signed.{toZ-ofZ}
-use Rattle.masking.specs.Steps.{Γ}
 use Rattle.masking.specs.StepsLaws.{steps-add}
-use Rattle.masking.proofs.Walk.{walked-none, walked-back, walked-step, walked-all}
-use Rattle.masking.proofs.steps.Needs.{then-i-lt0, else-i-lt0}
-use Rattle.masking.proofs.steps.Needs as need
+use Rattle.masking.proofs.Counted.{walked, walked-none, walked-back, walked-step, walked-all}
+use Rattle.masking.proofs.walk.Needs.{then-i-lt0, else-i-lt0}
+use Rattle.masking.proofs.walk.Needs as need
 
 pub loop-holds : need.loop-holds
 loop-holds g c =
@@ -33,11 +32,10 @@ pub returns : need.returns
 returns g c =
     let step : ℕ → ℕ = g .M·Masking .onward (c .args .masking .now) in
     let back : ℕ → ℕ = g .M·Masking .inward (c .args .masking .now) in
-    let i : ℤ = toZ w64 (ofZ w64 (c .args .i)) in
     record {
       reached =
           c .loop .inv
-          ∙ walked-all step back i (c .loop .counter) (c .args .block) (omega arith)
-          ∙ ap (Γ step back (c .args .block)) (toZ-ofZ w64 (c .args .i) (c .fits .i));
+          ∙ ap (λ (i : ℤ). walked step back i (c .loop .counter) (c .args .block)) (toZ-ofZ w64 (c .args .i) (c .fits .i))
+          ∙ walked-all step back (c .args .i) (c .loop .counter) (c .args .block) (omega arith);
       add = steps-add step back (g .M·Masking .laws (c .args .masking .now));
     }
