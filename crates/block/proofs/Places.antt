@@ -77,19 +77,18 @@ fill-short b piece h =
 long-enough : (b : ℕ) (piece : List ℕ) → length (take 16 (piece ++ b ∷ replicate 15 0)) ≡ 16
 long-enough b piece = length-take-le 16 (piece ++ b ∷ replicate 15 0) (let e = length-append piece (b ∷ replicate 15 0) in omega arith)
 
-pub filled-short : (b n : ℕ) (piece p block : List ℕ) → n ≡ length piece → n < 16 → p ≡ take n piece
-    → block ≡ set (p ++ drop n (replicate 16 0)) n b → blockAt 0 block ≡ fillWith b piece
+pub filled-short : (b n : ℕ) (piece p : List ℕ) → n ≡ length piece → n < 16 → p ≡ take n piece → blockAt 0 (set (p ++ drop n (replicate 16 0)) n b) ≡ fillWith b piece
 unfolding fillWith
-filled-short b n piece p block m h q e =
-    let f : block ≡ take 16 (piece ++ b ∷ replicate 15 0) =
-    e ∙ ap (λ (v : List ℕ). set (v ++ drop n (replicate 16 0)) n b) (q ∙ take-all n piece (omega arith))
+filled-short b n piece p m h q =
+    let f : set (p ++ drop n (replicate 16 0)) n b ≡ take 16 (piece ++ b ∷ replicate 15 0) =
+    ap (λ (v : List ℕ). set (v ++ drop n (replicate 16 0)) n b) (q ∙ take-all n piece (omega arith))
     ∙ ap (λ (k : ℕ). set (piece ++ drop k (replicate 16 0)) k b) m ∙ fill-short b piece (omega arith) in
     ap numberOf (ap (take 16) f ∙ take-all 16 (take 16 (piece ++ b ∷ replicate 15 0)) (let l = long-enough b piece in omega arith))
 
-pub filled-long : (b n : ℕ) (piece p rest block : List ℕ) → n ≡ 16 → 16 ≤ length piece → p ≡ take n piece → block ≡ p ++ rest → blockAt 0 block ≡ fillWith b piece
+pub filled-long : (b n : ℕ) (piece p rest : List ℕ) → n ≡ 16 → 16 ≤ length piece → p ≡ take n piece → blockAt 0 (p ++ rest) ≡ fillWith b piece
 unfolding fillWith
-filled-long b n piece p rest block m h q e =
+filled-long b n piece p rest m h q =
     let l = length-take-le 16 piece h in
     let q′ : p ≡ take 16 piece = q ∙ ap (λ (k : ℕ). take k piece) m in
     ap numberOf
-    (ap (take 16) (e ∙ ap (λ (v : List ℕ). v ++ rest) q′) ∙ take-at (take 16 piece) rest 16 l ∙ sym (take-append-le 16 piece (b ∷ replicate 15 0) h))
+    (ap (λ (v : List ℕ). take 16 (v ++ rest)) q′ ∙ take-at (take 16 piece) rest 16 l ∙ sym (take-append-le 16 piece (b ∷ replicate 15 0) h))

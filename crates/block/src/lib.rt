@@ -2,7 +2,7 @@
 ghost use mathlib.Core.Path.{_≡_};
 ghost use Prim.Native.Nat.{ℕ, _+_, _*_, _≤_};
 ghost use lib.ListN.{length};
-ghost use Rattle.block.specs.Bytes.{blockAt, storedAt};
+ghost use Rattle.block.specs.Bytes.{blockAt, bytesOf, storedAt};
 ghost use Rattle.block.specs.Cut.{before, lastBits, fillWith};
 
 // A block: 16 bytes read as one number, byte 0 leftmost.
@@ -33,17 +33,30 @@ pub fn load(bytes: &[u8], at: usize) -> Block
     load_whole(&block, 0)
 }
 
+// The bytes of a block.
+fn bytes_of(block: Block) -> [u8; 16]
+    ensures { λ r. ⌜ r ≡ bytesOf 16 block ⌝ }
+{
+    block.to_be_bytes()
+}
+
+// Writes the bytes of a block over the 16 from a place on, or over as many of them as there are.
+fn write_over(bytes: &mut [u8], at: usize, written: &[u8; 16])
+    ensures { λ _. ⌜ ((x : ℕ) → now (written .entry) ≡ bytesOf 16 x → now (bytes .exit) ≡ storedAt at x (now (bytes .entry))) ⌝ }
+{
+    let room = bytes.len().saturating_sub(at);
+    if room >= 16 {
+        bytes[at..at + 16].copy_from_slice(written);
+    } else if room > 0 {
+        bytes[at..].copy_from_slice(&written[0..room]);
+    }
+}
+
 // Writes a block over the 16 bytes from a place on, or over as many of them as there are.
 pub fn store(bytes: &mut [u8], at: usize, block: Block)
     ensures { λ _. ⌜ now (bytes .exit) ≡ storedAt at block (now (bytes .entry)) ⌝ }
 {
-    let room = bytes.len().saturating_sub(at);
-    let written = block.to_be_bytes();
-    if room >= 16 {
-        bytes[at..at + 16].copy_from_slice(&written);
-    } else if room > 0 {
-        bytes[at..].copy_from_slice(&written[0..room]);
-    }
+    write_over(bytes, at, &bytes_of(block));
 }
 
 // How a string is cut: how many blocks come before its last one, where that one begins, and how many bits it has.
@@ -71,9 +84,9 @@ impl Cut {
     }
 }
 
-// The block that begins with a piece, goes on with one byte and ends with zeros, as far as there is room.
-pub fn fill(byte: u8, piece: &[u8]) -> Block
-    ensures { λ r. ⌜ r ≡ fillWith byte (now (piece .entry)) ⌝ }
+// The bytes of a piece, one byte after them, and zeros, as far as there is room.
+fn filled(byte: u8, piece: &[u8]) -> [u8; 16]
+    ensures { λ r. ⌜ blockAt 0 r ≡ fillWith byte (now (piece .entry)) ⌝ }
 {
     let n = piece.len().min(16);
     let mut block = [0; 16];
@@ -81,5 +94,12 @@ pub fn fill(byte: u8, piece: &[u8]) -> Block
     if n < 16 {
         block[n] = byte;
     }
-    load_whole(&block, 0)
+    block
+}
+
+// The block that begins with a piece, goes on with one byte and ends with zeros, as far as there is room.
+pub fn fill(byte: u8, piece: &[u8]) -> Block
+    ensures { λ r. ⌜ r ≡ fillWith byte (now (piece .entry)) ⌝ }
+{
+    load_whole(&filled(byte, piece), 0)
 }

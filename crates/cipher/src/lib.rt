@@ -1,8 +1,13 @@
 // Block ciphers, by what they mean: two maps on blocks that undo each other.
 ghost use mathlib.Core.Path.{_≡_};
 ghost use Prim.Native.Nat.{ℕ};
-ghost use Rattle.block.specs.Maps.{Undo, same, undo-same, undo-swap};
+ghost use Rattle.block.specs.Maps.{IsBlock, Undo, same, undo-same, undo-swap};
+
+mod speck;
+
 use block::Block;
+pub use speck::Speck;
+pub use speck::SpeckCipher;
 
 // A block cipher under one key. Forward and backward are its two maps; the laws say that each undoes the other for every block.
 pub trait Cipher {
@@ -61,9 +66,16 @@ pub impl<C: Cipher> Cipher for Inverse<C> as InverseCipher {
     }
 }
 
+// The block that was encrypted.
+fn undo<C: Cipher>(cipher: &C, encrypted: Block) -> Block
+    ensures { λ r. ⌜ ((x : ℕ) → IsBlock x → encrypted ≡ C·Cipher .forward (now (cipher .entry)) x → r ≡ x) ⌝ }
+{
+    cipher.decrypt(encrypted)
+}
+
 // Encrypts a block and decrypts it again: the block, whatever the cipher.
 pub fn there_and_back<C: Cipher>(cipher: &C, block: Block) -> Block
     ensures { λ r. ⌜ r ≡ block ⌝ }
 {
-    cipher.decrypt(cipher.encrypt(block))
+    undo(cipher, cipher.encrypt(block))
 }

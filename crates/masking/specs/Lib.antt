@@ -3,3 +3,4 @@ pub mod DoublingLaws
 pub mod Tower
 pub mod TowerLaws
 pub mod Steps
+pub mod StepsLaws

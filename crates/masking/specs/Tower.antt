@@ -24,11 +24,11 @@ alpha = double 31 0x0a000021
 abbrev pub alphaBack : ℕ → ℕ
 alphaBack = halve 31 0x0a000021
 
-unfoldable pub towerStep : ℕ → ℕ
+abbrev pub towerStep : ℕ → ℕ
 towerStep x = fromWords (bitXor (word2 x) (word3 x)) (word1 x) (bitXor (word0 x) (word3 x)) (alpha (word3 x))
 
 -- the words that a step came from: the leftmost first
-unfoldable pub towerBack : ℕ → ℕ
+abbrev pub towerBack : ℕ → ℕ
 towerBack y =
     let t : ℕ = alphaBack (word0 y) in
     fromWords t (bitXor (word3 y) t) (word2 y) (bitXor (word1 y) t)

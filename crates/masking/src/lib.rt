@@ -2,9 +2,11 @@
 ghost use mathlib.Core.Path.{_≡_};
 ghost use mathlib.Core.List.{[], _∷_};
 ghost use Prim.Native.Nat.{ℕ};
-ghost use Rattle.block.specs.Maps.{Undo, same, undo-same};
+ghost use lib.IntN.{natAbs};
+ghost use Rattle.block.specs.Maps.{IsBlock, Undo, same, undo-same};
 ghost use Rattle.masking.specs.Doubling.{doubled, undoubled};
 ghost use Rattle.masking.specs.DoublingLaws.{doubling-undo};
+ghost use Rattle.masking.specs.Steps.{Γ, StepsAdd};
 ghost use Rattle.masking.specs.Tower.{word3, word2, word1, word0, fromWords, alpha, alphaBack, towerStep, towerBack};
 ghost use Rattle.masking.specs.TowerLaws.{tower-undo};
 use block::Block;
@@ -44,7 +46,22 @@ pub impl Masking for Idle as IdleMasking {
     }
 }
 
-// Doubling in the field of 2^128 elements: shift left by one bit, and add 0x87 if a one was shifted out.
+// A block shifted left by one bit, with 0x87 added if a one was shifted out.
+fn double(block: Block) -> Block
+    ensures { λ r. ⌜ r ≡ doubled block ⌝ }
+{
+    (block << 1) ^ (0x87 * (block >> 127))
+}
+
+// The block that was doubled.
+fn halve(block: Block) -> Block
+    ensures { λ r. ⌜ r ≡ undoubled block ⌝ }
+{
+    let low = block % 2;
+    ((block ^ (0x87 * low)) >> 1) + (low << 127)
+}
+
+// Doubling in the field of 2^128 elements.
 #[derive(Clone, Copy)]
 pub struct Doubling;
 
@@ -56,20 +73,51 @@ pub impl Masking for Doubling as DoublingMasking {
     ghost laws = { λ _. doubling-undo };
 
     fn step(&self, block: Block) -> Block {
-        (block << 1) ^ (0x87 * (block >> 127))
+        double(block)
     }
 
     fn back(&self, block: Block) -> Block {
-        let low = block % 2;
-        ((block ^ (0x87 * low)) >> 1) + (low << 127)
+        halve(block)
     }
+}
+
+// The block that a step came from.
+fn undo<M: Masking>(masking: &M, stepped: Block) -> Block
+    ensures { λ r. ⌜ ((x : ℕ) → IsBlock x → stepped ≡ M·Masking .onward (now (masking .entry)) x → r ≡ x) ⌝ }
+{
+    masking.back(stepped)
 }
 
 // Steps from a block and goes back again: the block, whatever the masking.
 pub fn there_and_back<M: Masking>(masking: &M, block: Block) -> Block
     ensures { λ r. ⌜ r ≡ block ⌝ }
 {
-    masking.back(masking.step(block))
+    undo(masking, masking.step(block))
+}
+
+// Goes so many steps, or backs where i is negative. As the laws have it, i steps and j more are i + j.
+fn walk<M: Masking>(masking: &M, block: Block, i: i64, count: u64) -> Block
+    requires { ⌜ count ≡ natAbs i ⌝ }
+    ensures reached { λ r. ⌜ r ≡ Γ (M·Masking .onward (now (masking .entry))) (M·Masking .inward (now (masking .entry))) block i ⌝ }
+    ensures add { λ _. ⌜ StepsAdd (M·Masking .onward (now (masking .entry))) (M·Masking .inward (now (masking .entry))) ⌝ }
+{
+    let mut reached = block;
+    for _ in 0..count {
+        reached = if i < 0 {
+            masking.back(reached)
+        } else {
+            masking.step(reached)
+        };
+    }
+    reached
+}
+
+// A block after i steps, or after -i backs where i is negative; and that such steps add up.
+pub fn steps<M: Masking>(masking: &M, block: Block, i: i64) -> Block
+    ensures reached { λ r. ⌜ r ≡ Γ (M·Masking .onward (now (masking .entry))) (M·Masking .inward (now (masking .entry))) block i ⌝ }
+    ensures add { λ _. ⌜ StepsAdd (M·Masking .onward (now (masking .entry))) (M·Masking .inward (now (masking .entry))) ⌝ }
+{
+    walk(masking, block, i, i.unsigned_abs())
 }
 
 const WORD: u128 = 0x1_0000_0000;

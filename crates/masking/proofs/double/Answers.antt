@@ -1,6 +1,6 @@
 use mathlib.Core.Path.{refl}
 use Rattle.block.specs.Double.{double}
-use Rattle.masking.proofs.DoublingMasking.step.Needs as need
+use Rattle.masking.proofs.double.Needs as need
 
 pub returns : need.returns
 unfolding double

@@ -3,7 +3,7 @@ use Prim.Native.Nat.{ℕ, _+_, _*_, _/_, _%_, _^_, _<_}
 use native.Mathlib.Omega.{arith}
 use lib.Bits.{bitXor, xor-lt}
 use Rattle.block.specs.Double.{halve}
-use Rattle.masking.proofs.DoublingMasking.back.Needs as need
+use Rattle.masking.proofs.halve.Needs as need
 
 pub add-result : need.add-result
 add-result c =
