@@ -9,10 +9,6 @@ pub one : (a : ℕ) → a < 2 ^ 8 → a ≡ product a 1
 unfolding product times
 one = by-bytes (λ a. a) (λ a. product a 1) tt
 
-pub two : (a : ℕ) → a < 2 ^ 8 → timesX a ≡ product a 2
-unfolding product times
-two = by-bytes (λ a. timesX a) (λ a. product a 2) tt
-
 pub three : (a : ℕ) → a < 2 ^ 8 → bitXor (timesX a) a ≡ product a 3
 unfolding product times
 three = by-bytes (λ a. bitXor (timesX a) a) (λ a. product a 3) tt

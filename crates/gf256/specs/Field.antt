@@ -19,7 +19,7 @@ product a b = times 8 a b
 -- an element to the power n
 unfoldable pub power : ℕ → ℕ → ℕ
 power a zero = 1
-power a (suc n) = product a (power a n)
+power a (suc n) = product (power a n) a
 
 -- s ^ 1 * s ^ 2 * s ^ 4 .., n factors
 unfoldable pub squares : ℕ → ℕ → ℕ

@@ -10,8 +10,8 @@ use Rattle.block.specs.Double.{double}
 use Rattle.block.specs.DoubleLaws.{double-fits}
 use Rattle.block.specs.Xor.{xor-four}
 use Rattle.block.specs.Additive.{Additive, double-xor}
-use Rattle.gf256.specs.Field.{timesX, times, product, squares, inverse, IsInverse}
-use Rattle.gf256.specs.Tests.{upto, below}
+use Rattle.gf256.specs.Field.{timesX, times, product, power, squares, inverse, IsInverse}
+use Rattle.gf256.specs.Tests.{upto, below, by-bytes}
 
 scaled-xor : (x y b : ℕ) → b < 2 → bitXor x y * b ≡ bitXor (x * b) (y * b)
 scaled-xor x y zero h =
@@ -57,6 +57,15 @@ times-fits (suc n) a k h =
 pub product-fits : (a k : ℕ) → a < 2 ^ 8 → product a k < 2 ^ 8
 unfolding product
 product-fits a k h = times-fits 8 a k h
+
+pub times-two : (a : ℕ) → a < 2 ^ 8 → timesX a ≡ product a 2
+unfolding product times
+times-two = by-bytes (λ a. timesX a) (λ a. product a 2) tt
+
+pub power-fits : (n : ℕ) → power 2 n < 2 ^ 8
+unfolding power
+power-fits zero = omega arith
+power-fits (suc n) = product-fits (power 2 n) 2 (power-fits n)
 
 unfoldable inverts : ℕ → Bool
 inverts zero = eqb (inverse 0) 0
