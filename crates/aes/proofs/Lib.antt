@@ -1,0 +1,4 @@
+mod Example
+mod Keys
+mod Rounds
+mod Words

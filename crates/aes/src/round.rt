@@ -1,0 +1,5 @@
+// A round key.
+#[derive(Clone, Copy)]
+pub struct Round {
+    pub cells: [[u8; 4]; 4],
+}
