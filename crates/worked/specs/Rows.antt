@@ -59,3 +59,6 @@ table =
     ∷ stepped (fromWords 0x80000000 0 0 0) (fromWords 0x80000000 0 0x80000000 0x0a000021)
     ∷ backed (fromWords 0 0 0 1) (fromWords 0x85000010 0x85000010 0 0x85000010)
     ∷ []
+
+unfoldable pub TableHolds : Type 0
+TableHolds = AllHold table

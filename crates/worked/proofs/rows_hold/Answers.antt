@@ -11,8 +11,8 @@ use Rattle.masking.specs.Steps.{times}
 use Rattle.masking.specs.Tower.{towerStep, towerBack}
 use Rattle.mode.specs.declared.value.Mode.the-variants.{Forward, Dual}
 use Rattle.mode.specs.Sealing.{deltaZero, deltaOne, kappa, headerBlock, closing, someHeaderTag, headerTag, gamma, masked, padOf, body, sealedBytes, tagFrom, messageTag, tagOf, Seals}
-use Rattle.worked.specs.Rows.{plain, AllHold, one, table}
-use Rattle.worked.proofs.rows.Needs as need
+use Rattle.worked.specs.Rows.{plain, one, table, AllHold, TableHolds}
+use Rattle.worked.proofs.rows_hold.Needs as need
 
 -- a message seals in both modes, from its three equations
 both : (header message bytes : List ℕ) (tag : ℕ) → Bytes message → bytes ≡ sealedBytes plain Forward 0 message → bytes ≡ sealedBytes plain Dual 0 message
@@ -45,4 +45,5 @@ all-hold = (
 )
 
 pub returns : need.returns
-returns c = record { count = refl; hold = all-hold }
+unfolding TableHolds
+returns c = all-hold
