@@ -4,6 +4,11 @@ ghost use Rattle.layer.specs.Layers.{valueOf, nameOf};
 ghost use Rattle.std.specs.declared.option.Option.the-variants.{Some};
 use std::fmt;
 
+mod line;
+
+pub use line::Line;
+pub use line::LineDisplay;
+
 // The layer where a refusal arose: the sealing mode, the frame or the station.
 #[derive(Clone, Copy, PartialEq, Eq, Debug)]
 pub enum Layer {
