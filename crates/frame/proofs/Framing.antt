@@ -1,20 +1,22 @@
 -- What sealing into a frame leaves in the output.
-use mathlib.Core.Path.{_≡_, sym, ap, ap₂, _∙_}
+use mathlib.Core.Path.{_≡_, sym, ap, ap₂, subst, _∙_}
 use mathlib.Core.List.{List, [], _∷_, _++_, append-assoc}
-use Prim.Native.Nat.{ℕ, _+_, _-_, _≤_}
+use Prim.Native.Nat.{ℕ, _+_, _-_, _≤_, _<_}
 use native.Mathlib.Omega.{arith}
 use borrow.Rule.Slice.PartMut.{putMid}
 use lib.ListN.{length, take, drop, length-drop, length-append}
 use lib.Seq.{drop-append-add}
 use Rattle.std.proofs.shelf.Lists.{take-at, drop-at, take-take, drop-drop, take-append-drop}
-use Rattle.block.specs.Bytes.{bytesOf, blockAt, storedAt}
+use Rattle.block.specs.Bytes.{Bytes, bytesOf, blockAt, storedAt}
 use Rattle.block.specs.BytesLaws.{stored-whole}
 use Rattle.mode.specs.declared.value.Mode.{Mode}
-use Rattle.mode.specs.Sealing.{Maps, sealedBytes, tagOf}
+use Rattle.mode.specs.Sealing.{Maps, Lawful, sealedBytes, tagOf}
 use Rattle.mode.specs.SealingLaws.{length-sealed}
 use Rattle.mode.specs.Gives.{Behind}
-use Rattle.frame.specs.Form.{headOf, headerFrom, frameOf}
-use Rattle.frame.specs.FormLaws.{length-head, nonce-first}
+use Rattle.frame.specs.Fields.{senderOf, frameNumber}
+use Rattle.frame.specs.Form.{headOf, headerFrom, frameOf, clearPart, SealsTo}
+use Rattle.frame.specs.FormLaws.{length-head, nonce-first, frame-length, frame-sender, frame-number-low, frame-clear, frame-seals, only-one, never-neighbours}
+use Rattle.frame.specs.Gives.{Framed, SealedFrame}
 
 module _ (w : Maps) (mode : Mode) (sender number : ℕ) (clear message was : List ℕ) (first second buf out : List ℕ) (nonce tag : ℕ)
     (room : 32 + length clear + length message + 16 ≤ length was)
@@ -92,3 +94,21 @@ module _ (w : Maps) (mode : Mode) (sender number : ℕ) (clear message was : Lis
       ∙ ap (λ (x : ℕ). (header ++ sealed) ++ (bytesOf 16 x ++ drop (tagAt + 16) was)) tag-is
       ∙ sym (append-assoc (header ++ sealed) (bytesOf 16 (tagOf w (blockAt 16 header) header message)) (drop (tagAt + 16) was))
       ∙ ap (λ (v : List ℕ). v ++ drop (tagAt + 16) was) (append-assoc header sealed (bytesOf 16 (tagOf w (blockAt 16 header) header message)))
+
+-- an accepted frame, read back
+pub framed-seals : (w : Maps) → Lawful w → (sender number m n : ℕ) (clear message was out : List ℕ) → sender < 256 → Bytes clear → Bytes message
+    → Framed w sender number m clear message was out n → SealedFrame w sender number clear message (take n out)
+framed-seals w laws sender number m n clear message was out hs hc hm f =
+    let frame : List ℕ = frameOf w (f .mode) sender number clear message in
+    let is : take n out ≡ frame =
+    ap (take n) (f .out-is) ∙ take-at frame (drop n was) n (frame-length w (f .mode) sender number clear message ∙ sym (f .length-is)) in
+    let seals : SealsTo w message (take n out) =
+    subst (SealsTo w message) (sym is) (frame-seals w laws (f .mode) sender number clear message hs hc hm (f .clear-short) (f .message-short)) in
+    record {
+      sender-is = ap senderOf is ∙ frame-sender w (f .mode) sender number clear message;
+      number-is = ap frameNumber is ∙ frame-number-low w (f .mode) sender number clear message;
+      clear-is = ap clearPart is ∙ frame-clear w (f .mode) sender number clear message (f .clear-short);
+      seals = seals;
+      alone = λ other t. only-one w laws (take n out) other message t seals;
+      apart = λ g other b t. never-neighbours w laws (take n out) g message other b seals t;
+    }

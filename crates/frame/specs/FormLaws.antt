@@ -2,13 +2,14 @@
 use mathlib.Core.Path.{_≡_, refl, sym, ap, ap₂, subst, _∙_}
 use mathlib.Core.List.{List, [], _∷_, _++_, append-assoc}
 use mathlib.Core.Logic.{_≢_}
-use Prim.Native.Nat.{ℕ, _+_, _*_, _^_, _<_, _≤_, min}
+use Prim.Native.Nat.{ℕ, _+_, _*_, _%_, _^_, _<_, _≤_, min}
+use native.Mathlib.Nat.{zero-add, mod-eq-of-lt}
 use native.Mathlib.Omega.{arith}
 use lib.ListN.{length, take, drop, replicate, length-append}
 use lib.Seq.{take-add, getD-take}
 use Rattle.std.proofs.shelf.Lists.{take-at, drop-at, take-all, take-take, drop-drop, drop-take, length-take-le, take-append-le}
 use Rattle.block.specs.Bytes.{Bytes, more, bytesOf, numberOf, blockAt}
-use Rattle.block.specs.BytesLaws.{length-bytes, number-bytes, bytes-of, bytes-append, bytes-replicate, bytes-take, bytes-drop, block-fits}
+use Rattle.block.specs.BytesLaws.{length-bytes, read-bytes, number-bytes, bytes-of, bytes-append, bytes-replicate, bytes-take, bytes-drop, block-fits}
 use Rattle.block.specs.Cut.{OneBlock}
 use Rattle.block.specs.CutLaws.{one-block-after, numbers-tell}
 use Rattle.mode.specs.declared.value.Mode.{Mode}
@@ -201,9 +202,13 @@ frame-length w mode sender number clear message =
     let e = length-bytes 16 (tagOf w (blockAt 16 header) header message) in
     omega arith
 
-pub frame-number : (w : Maps) (mode : Mode) (sender number : ℕ) (clear message : List ℕ) → number < 2 ^ 48 → frameNumber (frameOf w mode sender number clear message) ≡ number
+-- of a number a frame holds the low 48 bits
+pub frame-number-low : (w : Maps) (mode : Mode) (sender number : ℕ) (clear message : List ℕ) → frameNumber (frameOf w mode sender number clear message) ≡ number % 2 ^ 48
 unfolding frameOf headOf bytesOf
-frame-number w mode sender number clear message h = number-bytes 6 number h
+frame-number-low w mode sender number clear message = read-bytes 6 0 number ∙ zero-add (number % 2 ^ 48)
+
+pub frame-number : (w : Maps) (mode : Mode) (sender number : ℕ) (clear message : List ℕ) → number < 2 ^ 48 → frameNumber (frameOf w mode sender number clear message) ≡ number
+frame-number w mode sender number clear message h = frame-number-low w mode sender number clear message ∙ mod-eq-of-lt h
 
 pub frame-sender : (w : Maps) (mode : Mode) (sender number : ℕ) (clear message : List ℕ) → senderOf (frameOf w mode sender number clear message) ≡ sender
 unfolding frameOf headOf bytesOf

@@ -1,5 +1,5 @@
 -- What each call on a frame answers and writes, in every case.
-use Prim.Native.Nat.{ℕ, _+_, _<_, _≤_}
+use Prim.Native.Nat.{ℕ, _+_, _%_, _^_, _<_, _≤_}
 use mathlib.Core.List.{List, _++_}
 use mathlib.Core.Logic.{_⊎_}
 use mathlib.Core.Path.{_≡_}
@@ -15,7 +15,7 @@ use Rattle.frame.specs.declared.fault.FrameFault.{FrameFault}
 use Rattle.frame.specs.declared.fault.FrameFault.the-variants.{UnknownMode, ClearTooLong, MessageTooLong, OutputShort, FrameShort, BadField, FrameLength, Sealing}
 use Rattle.frame.specs.declared.pieces.FrameParts.{FrameParts}
 use Rattle.frame.specs.Fields.{modeByte, clearLength, sealedLength, sealedStart, tagStart, senderOf, frameNumber, AllHold, Breaks}
-use Rattle.frame.specs.Form.{frameOf, headerOf, clearPart, sealedPart, tagPart, WellFormed, SealsTo}
+use Rattle.frame.specs.Form.{frameOf, headerOf, clearPart, sealedPart, tagPart, WellFormed, SealsTo, Neighbours}
 
 -- a mode's number
 abbrev pub Known : ℕ → Type 0
@@ -71,6 +71,19 @@ FrameSeals w sender number m clear message was out (Err FrameShort) = ⊥
 FrameSeals w sender number m clear message was out (Err (BadField field)) = ⊥
 FrameSeals w sender number m clear message was out (Err FrameLength) = ⊥
 FrameSeals w sender number m clear message was out (Err (Sealing fault)) = ⊥
+
+-- what a frame is that a message was sealed into: read back it says what it was given; its message alone seals to it, and none to a neighbour
+pub record SealedFrame (w : Maps) (sender number : ℕ) (clear message f : List ℕ) : Type 0 where
+  pub sender-is : senderOf f ≡ sender
+  pub number-is : frameNumber f ≡ number % 2 ^ 48
+  pub clear-is : clearPart f ≡ clear
+  pub seals : SealsTo w message f
+  pub alone : (other : List ℕ) → SealsTo w other f → other ≡ message
+  pub apart : (g other : List ℕ) → Neighbours f g → SealsTo w other g → ⊥
+
+abbrev pub SealsFrame : Maps → (sender number : ℕ) (clear message out : List ℕ) → Result ℕ FrameFault → Type 0
+SealsFrame w sender number clear message out (Ok n) = SealedFrame w sender number clear message (take n out)
+SealsFrame w sender number clear message out (Err fault) = Unit {0}
 
 -- a message seals to the sealed part and the tag, under the header and the nonce in it
 abbrev pub SealsToParts : Maps → FrameParts → List ℕ → Type 0

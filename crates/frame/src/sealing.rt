@@ -4,7 +4,7 @@ ghost use Prim.Native.Nat.{_≤_};
 ghost use lib.ListN.{length};
 ghost use Rattle.mode.specs.Pairs.{mapsOf};
 ghost use Rattle.frame.specs.Form.{headOf};
-ghost use Rattle.frame.specs.Gives.{FrameSeals, PartsOpen, FrameOpens};
+ghost use Rattle.frame.specs.Gives.{FrameSeals, SealsFrame, PartsOpen, FrameOpens};
 use crate::fault::FrameFault;
 use crate::fault::FrameFaultFromMode;
 use crate::pieces::FrameParts;
@@ -75,7 +75,8 @@ pub fn seal<C: Cipher, M: Masking>(
     message: &[u8],
     out: &mut [u8],
 ) -> Result<usize, FrameFault>
-    ensures { λ r. ⌜ FrameSeals (mapsOf forward backward onward inward (now (pair .entry))) sender number mode (now (clear .entry)) (now (message .entry)) (now (out .entry)) (now (out .exit)) r ⌝ }
+    ensures gives { λ r. ⌜ FrameSeals (mapsOf forward backward onward inward (now (pair .entry))) sender number mode (now (clear .entry)) (now (message .entry)) (now (out .entry)) (now (out .exit)) r ⌝ }
+    ensures seals { λ r. ⌜ SealsFrame (mapsOf forward backward onward inward (now (pair .entry))) sender number (now (clear .entry)) (now (message .entry)) (now (out .exit)) r ⌝ }
 {
     let Some(mode) = Mode::of(mode) else {
         return Err(FrameFault::UnknownMode);
