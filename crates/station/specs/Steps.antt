@@ -1,4 +1,5 @@
 -- What each call answers, writes and makes of a station, accepted or refused.
+use mathlib.Core.Bool.{Bool, cond}
 use mathlib.Core.List.{List, _++_}
 use mathlib.Core.Logic.{_⊎_}
 use mathlib.Core.Path.{_≡_}
@@ -55,6 +56,11 @@ module _ {C M : Type 0} where
   abbrev pub Held : Station C M → Ticket → Type 0
   Held s k = (k .id ≡ s .own) × (s .out ≡ Some (k .number))
 
+  -- a ticket that is spent: its number, if it is the one that is out
+  abbrev pub Spends : Station C M → Ticket → Result ℕ StationFault → Type 0
+  Spends s k (Ok number) = Held s k × (number ≡ k .number)
+  Spends s k (Err fault) = (Held s k → ⊥) × (fault ≡ NotOut)
+
   -- what no call changes
   pub record Stays (s t : Station C M) : Type 0 where
     pub pair-is : t .pair ≡ s .pair
@@ -72,6 +78,16 @@ module _ {C M : Type 0} where
     pub reserved-is : t .reserved ≡ s .reserved + 1
     pub sealed-is : t .sealed ≡ s .sealed
     pub off-is : t .«written_off» ≡ s .«written_off» + held (s .out)
+    pub stays : Stays s t
+
+  -- out is cleared, and its number counted as sealed or as written off
+  pub record Settles (s : Station C M) (sealed : Bool) (t : Station C M) : Type 0 where
+    pub out-is : t .out ≡ None
+    pub next-is : t .next ≡ s .next
+    pub highest-is : t .peer .highest ≡ s .peer .highest
+    pub reserved-is : t .reserved ≡ s .reserved
+    pub sealed-is : t .sealed ≡ s .sealed + cond sealed 1 0
+    pub off-is : t .«written_off» ≡ s .«written_off» + cond sealed 0 1
     pub stays : Stays s t
 
   -- the number that was out is written off

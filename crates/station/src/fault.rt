@@ -30,7 +30,7 @@ pub impl From<FrameFault> for StationFault as StationFaultFromFrame {
     ghost converts = { λ f r. r ≡ Frame f };
 
     fn from(fault: FrameFault) -> StationFault {
-        StationFault::Frame(fault)
+        Self::Frame(fault)
     }
 }
 

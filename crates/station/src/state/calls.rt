@@ -1,8 +1,10 @@
 // The making of a station and the four calls on it.
+ghost use mathlib.Core.Bool.{true};
 ghost use mathlib.Core.Path.{_≡_};
+ghost use Rattle.std.specs.Options.{isSome};
 ghost use Rattle.mode.specs.Pairs.{mapsOf};
 ghost use Rattle.station.specs.Events.{Reserve, GiveUp, Seal, Open};
-ghost use Rattle.station.specs.Steps.{Step, Founds};
+ghost use Rattle.station.specs.Steps.{Step, Founds, Spends, Settles};
 ghost use Rattle.station.specs.Laws.{Lasts};
 use super::Opened;
 use super::Peer;
@@ -74,16 +76,36 @@ impl<C: Cipher, M: Masking> Station<C, M> {
         })
     }
 
-    // Writes off the number of a ticket.
-    pub fn give_up(&mut self, ticket: Ticket) -> Result<(), StationFault>
-        ensures { λ r. ⌜ Step (mapsOf (C·Cipher .forward) (C·Cipher .backward) (M·Masking .onward) (M·Masking .inward)) (now (self .entry)) (GiveUp ticket r) (now (self .exit)) ⌝ }
+    // Takes a ticket apart: its number, if it is the one that is out here.
+    fn spend(&self, ticket: Ticket) -> Result<u64, StationFault>
+        ensures { λ r. ⌜ Spends (now (self .entry)) ticket r ⌝ }
     {
         let Ticket { id, number } = ticket;
         if id != self.own || self.out != Some(number) {
             return Err(StationFault::NotOut);
         }
+        Ok(number)
+    }
+
+    // Clears out, and counts its number as sealed or as written off.
+    fn settle(&mut self, sealed: bool)
+        requires { ⌜ isSome (now self .out) ≡ true ⌝ }
+        ensures { λ _. ⌜ Settles (now (self .entry)) sealed (now (self .exit)) ⌝ }
+    {
         self.out = None;
-        self.written_off += 1;
+        if sealed {
+            self.sealed += 1;
+        } else {
+            self.written_off += 1;
+        }
+    }
+
+    // Writes off the number of a ticket.
+    pub fn give_up(&mut self, ticket: Ticket) -> Result<(), StationFault>
+        ensures { λ r. ⌜ Step (mapsOf (C·Cipher .forward) (C·Cipher .backward) (M·Masking .onward) (M·Masking .inward)) (now (self .entry)) (GiveUp ticket r) (now (self .exit)) ⌝ }
+    {
+        let _number = self.spend(ticket)?;
+        self.settle(false);
         Ok(())
     }
 
@@ -98,17 +120,9 @@ impl<C: Cipher, M: Masking> Station<C, M> {
     ) -> Result<usize, StationFault>
         ensures { λ r. ⌜ Step (mapsOf (C·Cipher .forward) (C·Cipher .backward) (M·Masking .onward) (M·Masking .inward)) (now (self .entry)) (Seal ticket mode (now (clear .entry)) (now (message .entry)) (now (out .entry)) (now (out .exit)) r) (now (self .exit)) ⌝ }
     {
-        let Ticket { id, number } = ticket;
-        if id != self.own || self.out != Some(number) {
-            return Err(StationFault::NotOut);
-        }
+        let number = self.spend(ticket)?;
         let answer = frame::seal(&self.pair, self.own, number, mode, clear, message, out);
-        self.out = None;
-        if answer.is_ok() {
-            self.sealed += 1;
-        } else {
-            self.written_off += 1;
-        }
+        self.settle(answer.is_ok());
         let length = answer?;
         Ok(length)
     }
