@@ -1,9 +1,6 @@
 // What the station's law says to a caller who sees only its contracts.
-ghost use mathlib.Core.Path.{_≡_};
-ghost use mathlib.Core.Bool.{true};
-ghost use Rattle.mode.specs.Pairs.{mapsOf};
 ghost use Rattle.station.specs.Laws.{Lasts};
-ghost use Rattle.replay.specs.Replay.{AtMostOne};
+ghost use Rattle.replay.specs.Replay.{AtMostOne, plain, plainMaps};
 use cipher::Cipher;
 use cipher::Identity;
 use cipher::IdentityCipher;
@@ -48,7 +45,7 @@ pub fn plainest(
     start: u64,
     floor: u64,
 ) -> Result<Station<Identity, Idle>, StationFault>
-    ensures { λ r. ⌜ Lasts (mapsOf (λ _ x. x) (λ _ x. x) (λ _ x. x) (λ _ x. x)) record { cipher = _; masking = _ } peer floor r ⌝ }
+    ensures { λ r. ⌜ Lasts plainMaps plain peer floor r ⌝ }
 {
     Station::new(Pair::new(Identity, Idle), own, peer, start, floor)
 }
