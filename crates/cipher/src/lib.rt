@@ -36,11 +36,11 @@ pub impl Cipher for Identity as IdentityCipher {
     ghost laws = { λ _. undo-same };
 
     fn encrypt(&self, block: Block) -> Block {
-        block
+        block // as it came
     }
 
     fn decrypt(&self, block: Block) -> Block {
-        block
+        block // as it was encrypted
     }
 }
 

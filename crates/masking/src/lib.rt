@@ -38,11 +38,11 @@ pub impl Masking for Idle as IdleMasking {
     ghost laws = { λ _. undo-same };
 
     fn step(&self, block: Block) -> Block {
-        block
+        block // as it came
     }
 
     fn back(&self, block: Block) -> Block {
-        block
+        block // as it was stepped to
     }
 }
 
