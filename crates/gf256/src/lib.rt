@@ -3,7 +3,7 @@ ghost use mathlib.Core.Path.{_≡_};
 ghost use Prim.Native.Nat.{ℕ, _+_, _*_, _/_, _%_, _^_, _<_};
 ghost use lib.Bits.{bitXor};
 ghost use Rattle.gf256.specs.Column.{coefficient, mixing, mixingBack};
-ghost use Rattle.gf256.specs.Field.{product, timesX, inverse, IsInverse};
+ghost use Rattle.gf256.specs.Field.{timesX, inverse, IsInverse};
 ghost use Rattle.gf256.specs.Substitution.{substituted, restored};
 ghost use Rattle.gf256.specs.Tables.{substitutes, originals};
 
@@ -52,59 +52,32 @@ pub fn times_x(a: u8) -> u8
     (a << 1) ^ (0x1b * (a >> 7))
 }
 
-fn twice(a: u8) -> u8
-    ensures { λ r. ⌜ r ≡ product a 2 ⌝ }
+// Twice a, three times b, c and d, added: by one doubling of a + b.
+fn mixed(a: u8, b: u8, c: u8, d: u8) -> u8
+    ensures { λ r. ⌜ r ≡ coefficient mixing a b c d ⌝ }
 {
-    times_x(a)
+    times_x(a ^ b) ^ (b ^ (c ^ d))
 }
 
-fn triple(a: u8) -> u8
-    ensures { λ r. ⌜ r ≡ product a 3 ⌝ }
+// The multiples of a by 14, b by 11, c by 13 and d by 9, added: by three doublings, the highest power of x first.
+fn unmixed(a: u8, b: u8, c: u8, d: u8) -> u8
+    ensures { λ r. ⌜ r ≡ coefficient mixingBack a b c d ⌝ }
 {
-    times_x(a) ^ a
-}
-
-fn by_nine(a: u8) -> u8
-    ensures { λ r. ⌜ r ≡ product a 9 ⌝ }
-{
-    times_x(times_x(times_x(a))) ^ a
-}
-
-fn by_eleven(a: u8) -> u8
-    ensures { λ r. ⌜ r ≡ product a 11 ⌝ }
-{
-    times_x(times_x(times_x(a)) ^ a) ^ a
-}
-
-fn by_thirteen(a: u8) -> u8
-    ensures { λ r. ⌜ r ≡ product a 13 ⌝ }
-{
-    times_x(times_x(times_x(a) ^ a)) ^ a
-}
-
-fn by_fourteen(a: u8) -> u8
-    ensures { λ r. ⌜ r ≡ product a 14 ⌝ }
-{
-    times_x(times_x(times_x(a) ^ a) ^ a)
-}
-
-// Two bytes, each taken once, and added.
-fn sum(a: u8, b: u8) -> u8
-    ensures { λ r. ⌜ r ≡ bitXor (product a 1) (product b 1) ⌝ }
-{
-    a ^ b
+    let eight = times_x((a ^ b) ^ (c ^ d));
+    let four = times_x(eight ^ (a ^ c));
+    times_x(four ^ (a ^ b)) ^ (b ^ (c ^ d))
 }
 
 // A byte of a mixed column, from the column's bytes in their order from that place on.
 pub fn mix_byte(a: u8, b: u8, c: u8, d: u8) -> u8
     ensures { λ r. ⌜ r ≡ coefficient mixing a b c d ⌝ }
 {
-    (twice(a) ^ triple(b)) ^ sum(c, d)
+    mixed(a, b, c, d)
 }
 
 // A byte of the column that a mixed one came from, in the same order.
 pub fn unmix_byte(a: u8, b: u8, c: u8, d: u8) -> u8
     ensures { λ r. ⌜ r ≡ coefficient mixingBack a b c d ⌝ }
 {
-    (by_fourteen(a) ^ by_eleven(b)) ^ (by_thirteen(c) ^ by_nine(d))
+    unmixed(a, b, c, d)
 }
