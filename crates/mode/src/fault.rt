@@ -27,7 +27,7 @@ impl ModeFault {
         }
     }
 
-    // The place in the frame that it names: none here, so 0.
+    // The place in the frame that it names: none here.
     pub fn place(self) -> u8
         ensures { λ r. ⌜ r ≡ placeOf self ⌝ }
     {
