@@ -2,6 +2,11 @@
 ghost use mathlib.Core.Path.{_≡_};
 ghost use Rattle.layer.specs.Layers.{valueOf};
 
+mod line;
+
+pub use line::Line;
+pub use line::LineDisplay;
+
 // The layer where a refusal arose: the sealing mode, the frame or the station.
 #[derive(Clone, Copy, PartialEq, Eq, Debug)]
 pub enum Layer {

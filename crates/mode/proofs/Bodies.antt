@@ -30,17 +30,17 @@ body-none w mode mask input was =
     }
 
 pub body-again : (w : Maps) (mode : Mode) (mask n : ℕ) (input was out new : List ℕ) (read written last x y next : ℕ)
-    → BlocksDone w mode mask n input was out read written last → next ≡ w .step last → x ≡ blockAt (16 * n) input → y ≡ sealing w mode (bitXor x next)
-    → 16 * n + 16 ≤ length out → new ≡ storedAt (16 * n) (bitXor y next) out
-    → BlocksDone w mode mask (n + 1) input was new (bitXor read x) (bitXor written (bitXor y next)) next
+    → BlocksDone w mode mask n input was out read written last → next ≡ w .step last → x ≡ blockAt (16 * n) input → y ≡ bitXor (sealing w mode (bitXor x next)) next
+    → 16 * n + 16 ≤ length out → new ≡ storedAt (16 * n) y out
+    → BlocksDone w mode mask (n + 1) input was new (bitXor read x) (bitXor written y) next
 body-again w mode mask n input was out new read written last x y next t s r v l o =
     let m : next ≡ times (w .step) (n + 1) mask = times-again (w .step) n mask last next (t .last-is) s in
-    let f : bitXor y next ≡ masked w (sealing w mode) mask n (blockAt (16 * n) input) =
-    masked-again w (sealing w mode) mask n x (blockAt (16 * n) input) next y m r v in
+    let f : y ≡ masked w (sealing w mode) mask n (blockAt (16 * n) input) =
+    v ∙ masked-again w (sealing w mode) mask n x (blockAt (16 * n) input) next (sealing w mode (bitXor x next)) m r refl in
     record {
-      out-is = through-again (masked w (sealing w mode) mask) n (bitXor y next) input was out new (t .out-is) (o ∙ stored-whole (16 * n) (bitXor y next) out l) f;
+      out-is = through-again (masked w (sealing w mode) mask) n y input was out new (t .out-is) (o ∙ stored-whole (16 * n) y out l) f;
       read-is = sum-again (λ i z. z) n read x input (t .read-is) r;
-      written-is = sum-again (masked w (sealing w mode) mask) n written (bitXor y next) input (t .written-is) f;
+      written-is = sum-again (masked w (sealing w mode) mask) n written y input (t .written-is) f;
       last-is = m;
     }
 

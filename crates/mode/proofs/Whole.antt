@@ -1,13 +1,17 @@
 -- Sealing and opening, put together from their steps.
 use mathlib.Core.Path.{_≡_, refl, sym, ap, ap₂, subst, _∙_}
+use mathlib.Core.Bool.{Bool}
 use mathlib.Core.List.{List, [], _∷_, _++_}
+use mathlib.Core.Logic.{⊎-elim}
 use Prim.Native.Nat.{ℕ, zero, suc, _+_, _-_, _*_, _/_, _<_, _≤_, _^_}
 use native.Mathlib.Numerals.{add-one}
 use native.Mathlib.Omega.{arith}
 use lib.Bits.{bitXor}
+use lib.Dec.{eqb}
 use lib.ListN.{length, take, drop, length-drop}
 use borrow.Rule.Slice.PartMut.{putMid}
 use Rattle.std.proofs.shelf.Lists.{take-rest, take-at, drop-at, drop-all, append-nil, length-take-le}
+use Rattle.std.proofs.shelf.Tests.{cases-eq, eq-eqb, ne-eqb}
 use Rattle.block.specs.Bytes.{bytesOf, blockAt}
 use Rattle.block.specs.Bytes.{Bytes}
 use Rattle.mode.specs.declared.value.Mode.{Mode}
@@ -19,16 +23,8 @@ use Rattle.mode.specs.Values.{otherOf}
 use Rattle.mode.specs.Sealing.{Maps, Lawful, deltaZero, deltaOne, headerTag, gamma, sealing, opening, masked, padOf, body, sealedBytes, openedBytes, tagFrom, messageTag, tagOf, Seals}
 use Rattle.mode.specs.Gives.{Behind}
 use Rattle.mode.specs.SealingLaws.{length-sealed, length-body, bytes-body, last-body, sealed-opened, seals-opened, tag-opened}
-use Rattle.mode.specs.Body.{BodyDone}
+use Rattle.mode.specs.Body.{BodyDone, Decided}
 use Rattle.mode.proofs.Loops.{times-again}
-
-pub delta-one-is : (w : Maps) (d e : ℕ) → d ≡ w .forward 1 → e ≡ w .step d → e ≡ deltaOne w
-unfolding deltaOne deltaZero
-delta-one-is w d e p q = q ∙ ap (w .step) p
-
-pub delta-zero-is : (w : Maps) (d : ℕ) → d ≡ w .forward 1 → d ≡ deltaZero w
-unfolding deltaZero
-delta-zero-is w d p = p
 
 -- what is encrypted for a message tag
 abbrev closed : Maps → ℕ → ℕ → ℕ → ℕ → List ℕ → ℕ
@@ -91,11 +87,6 @@ opening-is : (w : Maps) (mode : Mode) → sealing w (otherOf mode) ≡ opening w
 opening-is w Forward = refl
 opening-is w Dual = refl
 
--- what the tag made of the opened bytes decides
-pub record Opened (w : Maps) (mode : Mode) (nonce : ℕ) (header sealed out : List ℕ) (own tag : ℕ) : Type 0 where
-  pub accepts : (given : ℕ) → bitXor own tag ≡ given → Seals w mode nonce header out sealed given
-  pub refuses : (given : ℕ) → (bitXor own tag ≡ given → ⊥) → (message : List ℕ) → Seals w mode nonce header message sealed given → ⊥
-
 module _ (w : Maps) (laws : Lawful w) (mode : Mode) (nonce : ℕ) (fits : nonce < 2 ^ 128) (header sealed out : List ℕ) (read written mask pad delta own tag at : ℕ)
     (h : Bytes sealed) (t : BodyDone w (otherOf mode) nonce sealed out read written mask pad) (d : delta ≡ deltaOne w) (a : at ≡ 16 * before (length sealed))
     (o : own ≡ closed w delta mask pad written (take (length sealed - at) (drop at sealed))) (e : tag ≡ headerTag w header) where
@@ -124,9 +115,11 @@ module _ (w : Maps) (laws : Lawful w) (mode : Mode) (nonce : ℕ) (fits : nonce 
   unfolding tagOf
   tag-is = ap₂ (λ (y z : ℕ). bitXor y z) own-is e
 
-  pub open-ends : Opened w mode nonce header sealed out own tag
-  open-ends =
-      record {
-        accepts = λ given q. record { bytes = bytes-out; sealed-is = sym sealed-again; tag-is = sym q ∙ tag-is };
-        refuses = λ given q message s. q (tag-is ∙ ap (tagOf w nonce header) (out-is ∙ sym (seals-opened w laws nonce fits mode header message sealed given s)) ∙ sym (s .tag-is));
-      }
+  pub decided : (given : ℕ) → Decided w mode nonce header sealed given out (eqb (bitXor own tag) given)
+  decided given =
+      let P : Bool → Type 0 = Decided w mode nonce header sealed given out in
+      ⊎-elim
+      (λ q. subst P (sym (eq-eqb (bitXor own tag) given q)) record { bytes = bytes-out; sealed-is = sym sealed-again; tag-is = sym q ∙ tag-is })
+      (λ q. subst P (sym (ne-eqb (bitXor own tag) given q))
+      (λ message s. q (tag-is ∙ ap (tagOf w nonce header) (out-is ∙ sym (seals-opened w laws nonce fits mode header message sealed given s)) ∙ sym (s .tag-is))))
+      (cases-eq (bitXor own tag) given)

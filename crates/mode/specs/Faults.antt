@@ -1,5 +1,7 @@
--- The number, the place and the layer of each refusal of a mode.
+-- The number, the place, the layer and the reason of each refusal of a mode.
 use Prim.Native.Nat.{ℕ}
+use mathlib.Core.List.{List}
+use lib.Chars.{codes}
 use Rattle.layer.specs.declared.Layer.{Layer}
 use Rattle.layer.specs.declared.Layer.the-variants.{Mode}
 use Rattle.mode.specs.declared.fault.ModeFault.{ModeFault}
@@ -14,3 +16,8 @@ placeOf fault = 0
 
 abbrev pub layerOf : ModeFault → Layer
 layerOf fault = Mode
+
+-- why, in plain words
+abbrev pub reasonOf : ModeFault → List ℕ
+reasonOf OutputLength = codes "the output buffer is not of the message's length"
+reasonOf NotSealed = codes "no message seals to these bytes"

@@ -1,7 +1,12 @@
 // Why a mode refuses.
 ghost use mathlib.Core.Path.{_≡_};
-ghost use Rattle.mode.specs.Faults.{numberOf, placeOf, layerOf};
+ghost use Rattle.std.specs.declared.option.Option.the-variants.{Some};
+ghost use Rattle.layer.specs.Lines.{lineOf};
+ghost use Rattle.mode.specs.Faults.{numberOf, placeOf, layerOf, reasonOf};
 use layer::Layer;
+use layer::Line;
+use layer::LineDisplay;
+use std::fmt;
 
 #[derive(Clone, Copy, PartialEq, Eq, Debug)]
 pub enum ModeFault {
@@ -34,5 +39,29 @@ impl ModeFault {
         ensures { λ r. ⌜ r ≡ layerOf self ⌝ }
     {
         Layer::Mode
+    }
+
+    // Why, in plain words.
+    fn reason(self) -> &'static str
+        ensures { λ r. ⌜ now r ≡ reasonOf self ⌝ }
+    {
+        match self {
+            ModeFault::OutputLength => "the output buffer is not of the message's length",
+            ModeFault::NotSealed => "no message seals to these bytes",
+        }
+    }
+}
+
+pub impl fmt::Display for ModeFault as ModeFaultDisplay {
+    ghost shown = { λ fault. Some (lineOf (numberOf fault) (placeOf fault) (layerOf fault) (reasonOf fault)) };
+
+    fn fmt<W: fmt::Write>(&self, f: &mut fmt::Formatter<W>) -> fmt::Result {
+        let line = Line {
+            number: self.number(),
+            place: self.place(),
+            layer: self.layer(),
+            reason: self.reason(),
+        };
+        write!(f, "{line}")
     }
 }

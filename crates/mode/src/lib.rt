@@ -5,6 +5,7 @@ mod value;
 
 pub use fault::ModeFault;
 pub use fault::ModeFaultDebug;
+pub use fault::ModeFaultDisplay;
 pub use fault::ModeFaultEq;
 pub use fault::ModeFaultPartialEq;
 pub use pair::Pair;

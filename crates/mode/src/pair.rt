@@ -2,15 +2,15 @@
 ghost use mathlib.Core.Path.{_≡_};
 ghost use Prim.Native.Nat.{ℕ, _+_, _*_, _≤_};
 ghost use lib.Bits.{bitXor};
-ghost use lib.ListN.{length, take, drop};
-ghost use Rattle.block.specs.Bytes.{bytesOf, xorBytes};
+ghost use lib.ListN.{length, take, drop, replicate};
+ghost use Rattle.block.specs.Bytes.{bytesOf, blockAt, storedAt, xorBytes};
 ghost use Rattle.block.specs.Cut.{before, fillWith};
 ghost use Rattle.masking.specs.Steps.{times};
-ghost use Rattle.mode.specs.Sealing.{deltaZero, deltaOne, kappa as kappaOf, closing, headerTag, sealing, sealedBytes, messageTag};
+ghost use Rattle.mode.specs.Sealing.{deltaZero, deltaOne, kappa as kappaOf, closing, headerTag, sealing, sealedBytes, messageTag, Seals};
 ghost use Rattle.mode.specs.Pairs.{mapsOf};
-ghost use Rattle.mode.specs.Gives.{SealGives, BehindGives, OpenGives};
+ghost use Rattle.mode.specs.Gives.{SealGives, Behind, BehindGives, OpenGives};
 ghost use Rattle.mode.specs.Stands.{Stands};
-ghost use Rattle.mode.specs.Body.{BlocksDone, BodyDone};
+ghost use Rattle.mode.specs.Body.{BlocksDone, BodyDone, Decided};
 use crate::fault::ModeFault;
 use crate::value::Mode;
 use block::Block;
@@ -42,6 +42,13 @@ fn xor_piece(piece: &[u8], pad: Block, out: &mut [u8])
     }
 }
 
+// Zeroes every byte.
+fn wipe(bytes: &mut [u8])
+    ensures { λ _. ⌜ ((n : ℕ) → length (now (bytes .entry)) ≡ n → now (bytes .exit) ≡ replicate n 0) ⌝ }
+{
+    bytes.fill(0);
+}
+
 // What comes of the body of a message: the sums of its blocks before the last as read and as written, and the last block's mask and pad.
 #[derive(Clone, Copy)]
 struct Body {
@@ -70,6 +77,40 @@ impl<C: Cipher, M: Masking> Pair<C, M> {
         }
     }
 
+    // The cipher's block of the fixed string.
+    fn delta_zero(&self) -> Block
+        ensures { λ r. ⌜ r ≡ deltaZero (mapsOf forward backward onward inward (now (self .entry))) ⌝ }
+    {
+        self.cipher.encrypt(FIXED)
+    }
+
+    // One step from it.
+    fn delta_one(&self, delta_zero: Block) -> Block
+        requires { ⌜ «delta_zero» ≡ deltaZero (mapsOf forward backward onward inward (now self)) ⌝ }
+        ensures { λ r. ⌜ r ≡ deltaOne (mapsOf forward backward onward inward (now (self .entry))) ⌝ }
+    {
+        self.masking.step(delta_zero)
+    }
+
+    // Ciphers the block at a place between two masks; answers it as read and as written.
+    fn cipher_block(
+        &self,
+        mode: Mode,
+        mask: Block,
+        at: usize,
+        input: &[u8],
+        out: &mut [u8],
+    ) -> (Block, Block)
+        ensures read { λ r. ⌜ r .0 ≡ blockAt at (now (input .entry)) ⌝ }
+        ensures written { λ r. ⌜ r .1 ≡ bitXor (sealing (mapsOf forward backward onward inward (now (self .entry))) mode (bitXor (r .0) mask)) mask ⌝ }
+        ensures stored { λ r. ⌜ now (out .exit) ≡ storedAt at (r .1) (now (out .entry)) ⌝ }
+    {
+        let x = load(input, at);
+        let y = self.sealing(mode, x ^ mask) ^ mask;
+        store(out, at, y);
+        (x, y)
+    }
+
     // Ciphers the blocks before the last; answers their sums, as read and as written, and the mask of the last of them.
     fn cipher_blocks(
         &self,
@@ -87,13 +128,18 @@ impl<C: Cipher, M: Masking> Pair<C, M> {
         let mut written = 0;
         for i in 0..n {
             mask = self.masking.step(mask);
-            let x = load(input, 16 * i);
-            let y = self.sealing(mode, x ^ mask) ^ mask;
-            store(out, 16 * i, y);
+            let (x, y) = self.cipher_block(mode, mask, 16 * i, input, out);
             read ^= x;
             written ^= y;
         }
         (read, written, mask)
+    }
+
+    // The pad of a last block, from the number of its bits.
+    fn pad(&self, cut: Cut, mask: Block) -> Block
+        ensures { λ r. ⌜ r ≡ forward (now (self .entry) .cipher) (bitXor (cut .bits) mask) ⌝ }
+    {
+        self.cipher.encrypt(cut.bits as Block ^ mask)
     }
 
     // Ciphers a whole string of bytes: the blocks before the last by the mode's map, the last piece with the pad.
@@ -113,7 +159,7 @@ impl<C: Cipher, M: Masking> Pair<C, M> {
         let cut = Cut::of(input.len());
         let at = cut.at;
         let mask = self.masking.step(last);
-        let pad = self.cipher.encrypt(cut.bits as Block ^ mask);
+        let pad = self.pad(cut, mask);
         xor_piece(&input[at..], pad, &mut out[at..]);
         Body {
             read,
@@ -148,6 +194,13 @@ impl<C: Cipher, M: Masking> Pair<C, M> {
         }
     }
 
+    // Where the masks of a header begin.
+    fn kappa(&self, delta_zero: Block) -> Block
+        ensures { λ r. ⌜ r ≡ forward (now (self .entry) .cipher) «delta_zero» ⌝ }
+    {
+        self.cipher.encrypt(delta_zero)
+    }
+
     // The tag of a header, where the cipher's block of the fixed string is known.
     fn header_tag_from(&self, delta_zero: Block, header: &[u8]) -> Block
         requires { ⌜ «delta_zero» ≡ deltaZero (mapsOf forward backward onward inward (now self)) ⌝ }
@@ -156,7 +209,7 @@ impl<C: Cipher, M: Masking> Pair<C, M> {
         if header.len() == 0 {
             return 0;
         }
-        let kappa = self.cipher.encrypt(delta_zero);
+        let kappa = self.kappa(delta_zero);
         let n = Cut::of(header.len()).before;
         let mut mask = kappa;
         let mut sum = 0;
@@ -175,7 +228,7 @@ impl<C: Cipher, M: Masking> Pair<C, M> {
     pub fn header_tag(&self, header: &[u8]) -> Block
         ensures { λ r. ⌜ r ≡ headerTag (mapsOf forward backward onward inward (now (self .entry))) (now (header .entry)) ⌝ }
     {
-        self.header_tag_from(self.cipher.encrypt(FIXED), header)
+        self.header_tag_from(self.delta_zero(), header)
     }
 
     // Seals a message without its header, and answers the message tag.
@@ -196,6 +249,24 @@ impl<C: Cipher, M: Masking> Pair<C, M> {
         self.tag_from(delta_one, body.mask, body.pad, body.read, &out[at..])
     }
 
+    // Seals a message under its header, and answers the tag.
+    fn seal_whole(
+        &self,
+        mode: Mode,
+        nonce: Block,
+        header: &[u8],
+        message: &[u8],
+        out: &mut [u8],
+    ) -> Block
+        requires { ⌜ length (now out) ≡ length (now message) ⌝ }
+        ensures { λ r. ⌜ Seals (mapsOf forward backward onward inward (now (self .entry))) mode nonce (now (header .entry)) (now (message .entry)) (now (out .exit)) r ⌝ }
+    {
+        let delta_zero = self.delta_zero();
+        let delta_one = self.delta_one(delta_zero);
+        let tag = self.seal_body(mode, delta_one, nonce, message, out);
+        tag ^ self.header_tag_from(delta_zero, header)
+    }
+
     // Seals a message into an output buffer of its length, and answers the tag.
     pub fn seal(
         &self,
@@ -210,10 +281,26 @@ impl<C: Cipher, M: Masking> Pair<C, M> {
         if out.len() != message.len() {
             return Err(ModeFault::OutputLength);
         }
-        let delta_zero = self.cipher.encrypt(FIXED);
-        let delta_one = self.masking.step(delta_zero);
-        let tag = self.seal_body(mode, delta_one, nonce, message, out);
-        Ok(tag ^ self.header_tag_from(delta_zero, header))
+        Ok(self.seal_whole(mode, nonce, header, message, out))
+    }
+
+    // Seals a message behind a header in one buffer, which they fill; answers the tag.
+    fn behind_whole(
+        &self,
+        mode: Mode,
+        nonce: Block,
+        header_len: usize,
+        message: &[u8],
+        buf: &mut [u8],
+    ) -> Block
+        requires { ⌜ length (now buf) ≡ «header_len» + length (now message) ⌝ }
+        ensures { λ r. ⌜ Behind (mapsOf forward backward onward inward (now (self .entry))) mode nonce «header_len» (now (message .entry)) (now (buf .entry)) (now (buf .exit)) r ⌝ }
+    {
+        let delta_zero = self.delta_zero();
+        let delta_one = self.delta_one(delta_zero);
+        let header_tag = self.header_tag_from(delta_zero, &buf[0..header_len]);
+        let tag = self.seal_body(mode, delta_one, nonce, message, &mut buf[header_len..]);
+        tag ^ header_tag
     }
 
     // Seals a message into the bytes behind its header, which is the first bytes of the buffer; answers the tag.
@@ -230,11 +317,29 @@ impl<C: Cipher, M: Masking> Pair<C, M> {
         if header_len > buf.len() || buf.len() - header_len != message.len() {
             return Err(ModeFault::OutputLength);
         }
-        let delta_zero = self.cipher.encrypt(FIXED);
-        let delta_one = self.masking.step(delta_zero);
-        let header_tag = self.header_tag_from(delta_zero, &buf[0..header_len]);
-        let tag = self.seal_body(mode, delta_one, nonce, message, &mut buf[header_len..]);
-        Ok(tag ^ header_tag)
+        Ok(self.behind_whole(mode, nonce, header_len, message, buf))
+    }
+
+    // Writes the only message that can seal to these bytes, and says whether it does, with this tag.
+    fn open_whole(
+        &self,
+        mode: Mode,
+        nonce: Block,
+        header: &[u8],
+        sealed: &[u8],
+        tag: Block,
+        out: &mut [u8],
+    ) -> bool
+        requires { ⌜ length (now out) ≡ length (now sealed) ⌝ }
+        ensures { λ r. ⌜ Decided (mapsOf forward backward onward inward (now (self .entry))) mode nonce (now (header .entry)) (now (sealed .entry)) tag (now (out .exit)) r ⌝ }
+    {
+        let delta_zero = self.delta_zero();
+        let delta_one = self.delta_one(delta_zero);
+        let body = self.cipher_body(mode.other(), delta_one, nonce, sealed, out);
+        let at = Cut::of(sealed.len()).at;
+        let own = self.tag_from(delta_one, body.mask, body.pad, body.written, &sealed[at..]);
+        let whole = own ^ self.header_tag_from(delta_zero, header);
+        whole == tag
     }
 
     // Opens sealed bytes into an output buffer of their length, if a message seals to them and to the tag; else the buffer is zeroed.
@@ -252,16 +357,10 @@ impl<C: Cipher, M: Masking> Pair<C, M> {
         if out.len() != sealed.len() {
             return Err(ModeFault::OutputLength);
         }
-        let delta_zero = self.cipher.encrypt(FIXED);
-        let delta_one = self.masking.step(delta_zero);
-        let body = self.cipher_body(mode.other(), delta_one, nonce, sealed, out);
-        let at = Cut::of(sealed.len()).at;
-        let own = self.tag_from(delta_one, body.mask, body.pad, body.written, &sealed[at..]);
-        let whole = own ^ self.header_tag_from(delta_zero, header);
-        if whole != tag {
-            out.fill(0);
-            return Err(ModeFault::NotSealed);
+        if self.open_whole(mode, nonce, header, sealed, tag, out) {
+            return Ok(());
         }
-        Ok(())
+        wipe(out);
+        Err(ModeFault::NotSealed)
     }
 }

@@ -22,8 +22,8 @@ loop-i-holds g c =
 pub loop-i-again : need.loop-i-again
 loop-i-again g c =
     body-again (maps g (c .args .self .now)) (c .args .mode) (c .args .gamma) (c .loop-i .i) (c .args .input .now) (c .args .out .now)
-    (c .loop-i .out) (c .store .last .bytes) (c .loop-i .read) (c .loop-i .written) (c .loop-i .mask) (c .load-x .result) (c .sealing .result) (c .step-mask .result)
-    (c .loop-i .inv) (c .step-mask .ensures) (c .load-x .ensures) (c .sealing .ensures) (omega arith) (c .store .ensures)
+    (c .loop-i .out) (c .cipher-block-x .last .out) (c .loop-i .read) (c .loop-i .written) (c .loop-i .mask) (c .cipher-block-x .result .0) (c .cipher-block-x .result .1) (c .step-mask .result)
+    (c .loop-i .inv) (c .step-mask .ensures) (c .cipher-block-x .ensures .read) (c .cipher-block-x .ensures .written) (omega arith) (c .cipher-block-x .ensures .stored)
 
 pub returns : need.returns
 returns g c =

@@ -12,5 +12,5 @@ pub returns : need.returns
 returns g c =
     body-ends (maps g (c .args .self .now)) (c .args .mode) (c .args .nonce) (c .args .delta-one)
     (c .encrypt-gamma .result) (c .of-cut .result .at) (c .args .input .now) (c .args .out .now) (c .cipher-blocks-read .last .out) (c .xor-piece .last .out)
-    (c .cipher-blocks-read .result .0) (c .cipher-blocks-read .result .1) (c .cipher-blocks-read .result .2) (c .step-mask .result) (c .encrypt-pad .result) (c .of-cut .result .bits)
-    (c .pre .0) (c .encrypt-gamma .ensures) (c .pre .1) (c .cipher-blocks-read .ensures) (c .of-cut .ensures .at) (c .step-mask .ensures) (c .of-cut .ensures .bits) (c .encrypt-pad .ensures) (c .xor-piece .ensures)
+    (c .cipher-blocks-read .result .0) (c .cipher-blocks-read .result .1) (c .cipher-blocks-read .result .2) (c .step-mask .result) (c .pad-pad .result) (c .of-cut .result .bits)
+    (c .pre .0) (c .encrypt-gamma .ensures) (c .pre .1) (c .cipher-blocks-read .ensures) (c .of-cut .ensures .at) (c .step-mask .ensures) (c .of-cut .ensures .bits) (c .pad-pad .ensures) (c .xor-piece .ensures)

@@ -20,22 +20,22 @@ returns-then-header-eq0 g c = no-header (maps g (c .args .self .now)) (c .args .
 
 pub loop-i-holds : need.loop-i-holds
 loop-i-holds g c =
-    (times-none (g .M·Masking .onward (c .args .self .now .masking)) (c .encrypt-kappa .result), sum-none (headerBlock (maps g (c .args .self .now))) (c .args .header .now))
+    (times-none (g .M·Masking .onward (c .args .self .now .masking)) (c .kappa-kappa .result), sum-none (headerBlock (maps g (c .args .self .now))) (c .args .header .now))
 
 pub loop-i-again : need.loop-i-again
 loop-i-again g c =
-    let m : c .step-mask .result ≡ times (g .M·Masking .onward (c .args .self .now .masking)) (c .loop-i .i + 1) (c .encrypt-kappa .result) =
-    times-again (g .M·Masking .onward (c .args .self .now .masking)) (c .loop-i .i) (c .encrypt-kappa .result) (c .loop-i .mask) (c .step-mask .result) (c .loop-i .inv .0) (c .step-mask .ensures) in (
+    let m : c .step-mask .result ≡ times (g .M·Masking .onward (c .args .self .now .masking)) (c .loop-i .i + 1) (c .kappa-kappa .result) =
+    times-again (g .M·Masking .onward (c .args .self .now .masking)) (c .loop-i .i) (c .kappa-kappa .result) (c .loop-i .mask) (c .step-mask .result) (c .loop-i .inv .0) (c .step-mask .ensures) in (
       m,
-      header-again (maps g (c .args .self .now)) (c .loop-i .i) (c .loop-i .sum) (c .encrypt-kappa .result) (c .load-x .result) (c .step-mask .result) (c .encrypt-sum .result) (c .args .header .now)
-          (c .loop-i .inv .1) (kappa-is (maps g (c .args .self .now)) (c .args .delta-zero) (c .encrypt-kappa .result) (c .pre) (c .encrypt-kappa .ensures)) m (c .load-x .ensures) (c .encrypt-sum .ensures),
+      header-again (maps g (c .args .self .now)) (c .loop-i .i) (c .loop-i .sum) (c .kappa-kappa .result) (c .load-x .result) (c .step-mask .result) (c .encrypt-sum .result) (c .args .header .now)
+          (c .loop-i .inv .1) (kappa-is (maps g (c .args .self .now)) (c .args .delta-zero) (c .kappa-kappa .result) (c .pre) (c .kappa-kappa .ensures)) m (c .load-x .ensures) (c .encrypt-sum .ensures),
     )
 
 pub closing-closing-requires : need.closing-closing-requires
 closing-closing-requires g c κs =
     let n : c .loop-i .i ≡ c .of-n .result .before = omega arith in (
-      kappa-is (maps g (c .args .self .now)) (c .args .delta-zero) (c .encrypt-kappa .result) (c .pre) (c .encrypt-kappa .ensures),
-      c .loop-i .inv .0 ∙ ap (λ (k : ℕ). times (g .M·Masking .onward (c .args .self .now .masking)) k (c .encrypt-kappa .result)) n,
+      kappa-is (maps g (c .args .self .now)) (c .args .delta-zero) (c .kappa-kappa .result) (c .pre) (c .kappa-kappa .ensures),
+      c .loop-i .inv .0 ∙ ap (λ (k : ℕ). times (g .M·Masking .onward (c .args .self .now .masking)) k (c .kappa-kappa .result)) n,
     )
 
 pub returns : need.returns

@@ -6,18 +6,18 @@ use Rattle.block.specs.BytesLaws.{bytes-from}
 use Rattle.mode.specs.declared.pair.Pair.{Pair}
 use Rattle.mode.specs.Sealing.{Maps}
 use Rattle.mode.specs.Pairs.{mapsOf}
-use Rattle.mode.proofs.Whole.{delta-one-is, delta-zero-is, behind-ends}
-use Rattle.mode.proofs.pair.Pair.seal_behind.Given as given
-use Rattle.mode.proofs.pair.Pair.seal_behind.Needs as need
+use Rattle.mode.proofs.Whole.{behind-ends}
+use Rattle.mode.proofs.pair.Pair.behind_whole.Given as given
+use Rattle.mode.proofs.pair.Pair.behind_whole.Needs as need
 
 abbrev maps : (g : given.Over) → Pair (g .C .Denot) (g .M .Denot) → Maps
 maps g pair = mapsOf (g .C·Cipher .forward) (g .C·Cipher .backward) (g .M·Masking .onward) (g .M·Masking .inward) pair
 
 pub seal-body-tag-requires : need.seal-body-tag-requires
-seal-body-tag-requires g c κs = ((delta-one-is (maps g (c .args .self .now)) (c .encrypt-delta-zero .result) (c .step-delta-one .result) (c .encrypt-delta-zero .ensures) (c .step-delta-one .ensures)), simp (length-take, length-drop) (omega arith))
+seal-body-tag-requires g c κs = (c .delta-one-delta-one .ensures, simp (length-take, length-drop) (omega arith))
 
 pub header-tag-from-header-tag-requires : need.header-tag-from-header-tag-requires
-header-tag-from-header-tag-requires g c κs = delta-zero-is (maps g (c .args .self .now)) (c .encrypt-delta-zero .result) (c .encrypt-delta-zero .ensures)
+header-tag-from-header-tag-requires g c κs = c .delta-zero-delta-zero .ensures
 
 pub returns : need.returns
 returns g c =
