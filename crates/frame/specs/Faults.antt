@@ -1,8 +1,10 @@
--- The number, the place and the layer of each refusal of a frame.
+-- The number, the place, the layer and the reason of each refusal of a frame.
 use Prim.Native.Nat.{ℕ}
+use mathlib.Core.List.{List}
+use lib.Chars.{codes}
 use Rattle.layer.specs.declared.Layer.{Layer}
 use Rattle.layer.specs.declared.Layer.the-variants.{Frame}
-use Rattle.mode.specs.Faults.{numberOf as modeNumber, placeOf as modePlace, layerOf as modeLayer}
+use Rattle.mode.specs.Faults.{numberOf as modeNumber, placeOf as modePlace, layerOf as modeLayer, reasonOf as modeReason}
 use Rattle.frame.specs.declared.fault.FrameFault.{FrameFault}
 use Rattle.frame.specs.declared.fault.FrameFault.the-variants.{UnknownMode, ClearTooLong, MessageTooLong, OutputShort, FrameShort, BadField, FrameLength, Sealing}
 use Rattle.frame.specs.Fields.{fieldPlace}
@@ -36,3 +38,14 @@ layerOf FrameShort = Frame
 layerOf (BadField field) = Frame
 layerOf FrameLength = Frame
 layerOf (Sealing fault) = modeLayer fault
+
+-- why, in plain words
+abbrev pub reasonOf : FrameFault → List ℕ
+reasonOf UnknownMode = codes "the mode is neither 1 nor 2"
+reasonOf ClearTooLong = codes "the clear part is above 1024 bytes"
+reasonOf MessageTooLong = codes "the message is above 1024 bytes"
+reasonOf OutputShort = codes "the output is too short"
+reasonOf FrameShort = codes "the frame is below 48 bytes"
+reasonOf (BadField field) = codes "a field of the head breaks its rule"
+reasonOf FrameLength = codes "the frame does not end where its tag does"
+reasonOf (Sealing fault) = modeReason fault

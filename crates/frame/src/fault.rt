@@ -1,13 +1,19 @@
 // Why a frame is refused.
 ghost use mathlib.Core.Path.{_≡_};
+ghost use Rattle.std.specs.declared.option.Option.the-variants.{Some};
+ghost use Rattle.layer.specs.Lines.{lineOf};
 ghost use Rattle.frame.specs.declared.fault.FrameFault.the-variants.{Sealing};
 ghost use Rattle.frame.specs.Fields.{fieldPlace};
-ghost use Rattle.frame.specs.Faults.{numberOf, placeOf, layerOf};
+ghost use Rattle.frame.specs.Faults.{numberOf, placeOf, layerOf, reasonOf};
 use layer::Layer;
+use layer::Line;
+use layer::LineDisplay;
 use mode::ModeFault;
 use mode::ModeFaultDebug;
+use mode::ModeFaultDisplay;
 use mode::ModeFaultEq;
 use mode::ModeFaultPartialEq;
+use std::fmt;
 
 // A head field that has a rule, by the place of its first byte.
 #[derive(Clone, Copy, PartialEq, Eq, Debug)]
@@ -64,8 +70,8 @@ pub enum FrameFault {
 pub impl From<ModeFault> for FrameFault as FrameFaultFromMode {
     ghost converts = { λ f r. r ≡ Sealing f };
 
-    fn from(fault: ModeFault) -> FrameFault {
-        FrameFault::Sealing(fault)
+    fn from(refusal: ModeFault) -> FrameFault {
+        FrameFault::Sealing(refusal)
     }
 }
 
@@ -105,5 +111,30 @@ impl FrameFault {
             FrameFault::Sealing(fault) => fault.layer(),
             _ => Layer::Frame,
         }
+    }
+}
+
+// A refusal of the mode is written as the mode writes it.
+pub impl fmt::Display for FrameFault as FrameFaultDisplay {
+    ghost shown = { λ fault. Some (lineOf (numberOf fault) (placeOf fault) (layerOf fault) (reasonOf fault)) };
+
+    fn fmt<W: fmt::Write>(&self, f: &mut fmt::Formatter<W>) -> fmt::Result {
+        let reason = match *self {
+            FrameFault::UnknownMode => "the mode is neither 1 nor 2",
+            FrameFault::ClearTooLong => "the clear part is above 1024 bytes",
+            FrameFault::MessageTooLong => "the message is above 1024 bytes",
+            FrameFault::OutputShort => "the output is too short",
+            FrameFault::FrameShort => "the frame is below 48 bytes",
+            FrameFault::BadField(_) => "a field of the head breaks its rule",
+            FrameFault::FrameLength => "the frame does not end where its tag does",
+            FrameFault::Sealing(fault) => return write!(f, "{fault}"),
+        };
+        let line = Line {
+            number: self.number(),
+            place: self.place(),
+            layer: self.layer(),
+            reason,
+        };
+        write!(f, "{line}")
     }
 }

@@ -5,6 +5,7 @@ mod sealing;
 
 pub use fault::FrameFault;
 pub use fault::FrameFaultDebug;
+pub use fault::FrameFaultDisplay;
 pub use fault::FrameFaultEq;
 pub use fault::FrameFaultFromMode;
 pub use fault::FrameFaultPartialEq;
