@@ -1,8 +1,10 @@
 -- The number, the place and the layer of each refusal of a station.
 use Prim.Native.Nat.{ℕ}
+use mathlib.Core.List.{List}
+use lib.Chars.{codes}
 use Rattle.layer.specs.declared.Layer.{Layer}
 use Rattle.layer.specs.declared.Layer.the-variants.{Station}
-use Rattle.frame.specs.Faults.{numberOf as frameNumberOf, placeOf as framePlaceOf, layerOf as frameLayerOf}
+use Rattle.frame.specs.Faults.{numberOf as frameNumberOf, placeOf as framePlaceOf, layerOf as frameLayerOf, reasonOf as frameReasonOf}
 use Rattle.station.specs.declared.fault.StationFault.{StationFault}
 use Rattle.station.specs.declared.fault.StationFault.the-variants.{SameId, BadNumber, Exhausted, NotOut, UnknownSender, NotAbove, Frame}
 
@@ -32,3 +34,13 @@ layerOf NotOut = Station
 layerOf UnknownSender = Station
 layerOf NotAbove = Station
 layerOf (Frame fault) = frameLayerOf fault
+
+-- why, in plain words
+abbrev pub reasonOf : StationFault → List ℕ
+reasonOf SameId = codes "the station's own id is its peer's too"
+reasonOf BadNumber = codes "the start or the floor is outside the frame numbers"
+reasonOf Exhausted = codes "every frame number has been handed out"
+reasonOf NotOut = codes "the ticket is not the one that is out here"
+reasonOf UnknownSender = codes "the sender is not the peer"
+reasonOf NotAbove = codes "the number is not above the highest one"
+reasonOf (Frame fault) = frameReasonOf fault

@@ -1,12 +1,18 @@
 // Why a station refuses.
 ghost use mathlib.Core.Path.{_≡_};
+ghost use Rattle.std.specs.declared.option.Option.the-variants.{Some};
+ghost use Rattle.layer.specs.Lines.{lineOf};
 ghost use Rattle.station.specs.declared.fault.StationFault.the-variants.{Frame};
-ghost use Rattle.station.specs.Faults.{numberOf, placeOf, layerOf};
+ghost use Rattle.station.specs.Faults.{numberOf, placeOf, layerOf, reasonOf};
 use frame::FrameFault;
 use frame::FrameFaultDebug;
+use frame::FrameFaultDisplay;
 use frame::FrameFaultEq;
 use frame::FrameFaultPartialEq;
 use layer::Layer;
+use layer::Line;
+use layer::LineDisplay;
+use std::fmt;
 
 #[derive(Clone, Copy, PartialEq, Eq, Debug)]
 pub enum StationFault {
@@ -70,5 +76,29 @@ impl StationFault {
             StationFault::Frame(fault) => fault.layer(),
             _ => Layer::Station,
         }
+    }
+}
+
+// A refusal of the frame or the mode is written as they write it.
+pub impl fmt::Display for StationFault as StationFaultDisplay {
+    ghost shown = { λ fault. Some (lineOf (numberOf fault) (placeOf fault) (layerOf fault) (reasonOf fault)) };
+
+    fn fmt<W: fmt::Write>(&self, f: &mut fmt::Formatter<W>) -> fmt::Result {
+        let reason = match *self {
+            StationFault::SameId => "the station's own id is its peer's too",
+            StationFault::BadNumber => "the start or the floor is outside the frame numbers",
+            StationFault::Exhausted => "every frame number has been handed out",
+            StationFault::NotOut => "the ticket is not the one that is out here",
+            StationFault::UnknownSender => "the sender is not the peer",
+            StationFault::NotAbove => "the number is not above the highest one",
+            StationFault::Frame(fault) => return write!(f, "{fault}"),
+        };
+        let line = Line {
+            number: self.number(),
+            place: self.place(),
+            layer: self.layer(),
+            reason,
+        };
+        write!(f, "{line}")
     }
 }

@@ -4,6 +4,7 @@ mod state;
 
 pub use fault::StationFault;
 pub use fault::StationFaultDebug;
+pub use fault::StationFaultDisplay;
 pub use fault::StationFaultEq;
 pub use fault::StationFaultFromFrame;
 pub use fault::StationFaultPartialEq;
