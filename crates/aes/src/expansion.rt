@@ -1,7 +1,5 @@
 // The key expansion: from the 16 bytes of a key to eleven round keys.
 ghost use mathlib.Core.Path.{_≡_};
-ghost use Prim.Native.Nat.{ℕ};
-ghost use lib.Bits.{bitXor};
 ghost use Rattle.aes.specs.CipherLaws.{AllKeyBytes};
 ghost use Rattle.aes.specs.KeyExpansion.{roundKeys};
 ghost use Rattle.aes.specs.RoundKeys.{cellsOf, nextRow, nextKey};
@@ -35,7 +33,7 @@ fn next_key(key: Round, constant: u8) -> Round
 }
 
 // The eleven round keys. The round constants are the powers of x in the field.
-pub fn expand(key: [u8; 16]) -> [Round; 11]
+pub(crate) fn expand(key: [u8; 16]) -> [Round; 11]
     ensures keys { λ r. ⌜ cellsOf r ≡ roundKeys key ⌝ }
     ensures bytes { λ r. ⌜ AllKeyBytes (cellsOf r) ⌝ }
 {

@@ -7,7 +7,7 @@ ghost use Rattle.block.specs.Bytes.{numberOf};
 ghost use Rattle.std.specs.Options.{Cases as BySome};
 ghost use Rattle.aes.specs.Cipher.{round, lastRound, invRound, invLastRound, enciphered, deciphered, cipher, invCipher};
 ghost use Rattle.aes.specs.CipherLaws.{AllKeyBytes, cipher-undo};
-ghost use Rattle.aes.specs.KeyExpansion.{roundKeys};
+ghost use Rattle.aes.specs.KeyExpansion.{roundKeys, wordAt};
 ghost use Rattle.aes.specs.RoundKeys.{cellsOf};
 ghost use Rattle.aes.specs.State.{columnThen};
 use block::Block;
@@ -53,7 +53,7 @@ impl Aes128 {
 
     // Word i of the expanded key, of which there are 44: column i mod 4 of round key i / 4.
     pub fn word(&self, i: usize) -> Option<u32>
-        ensures { λ r. ⌜ BySome r (44 ≤ i) (λ w. (i < 44) × (w ≡ numberOf (columnThen (getD (cellsOf (now (self .entry) .keys)) (i / 4) []) (i % 4) []))) ⌝ }
+        ensures { λ r. ⌜ BySome r (44 ≤ i) (λ w. (i < 44) × (w ≡ wordAt (cellsOf (now (self .entry) .keys)) i)) ⌝ }
     {
         if i < 44 {
             Some(column(self.round_key(i / 4), i % 4))
@@ -62,6 +62,7 @@ impl Aes128 {
         }
     }
 
+    // Round key n.
     fn round_key(&self, n: usize) -> [[u8; 4]; 4]
         requires { ⌜ n < 11 ⌝ }
         ensures { λ r. ⌜ r ≡ getD (cellsOf (now (self .entry) .keys)) n [] ⌝ }
