@@ -7,7 +7,7 @@ ghost use Rattle.block.specs.Bytes.{numberOf};
 ghost use Rattle.std.specs.Options.{Cases as BySome};
 ghost use Rattle.aes.specs.Cipher.{round, lastRound, invRound, invLastRound, enciphered, deciphered, cipher, invCipher};
 ghost use Rattle.aes.specs.CipherLaws.{AllKeyBytes, cipher-undo};
-ghost use Rattle.aes.specs.KeyExpansion.{roundKeys, wordAt};
+ghost use Rattle.aes.specs.KeyExpansion.{expandedKey, roundKeys, wordAt};
 ghost use Rattle.aes.specs.RoundKeys.{cellsOf};
 ghost use Rattle.aes.specs.State.{columnThen};
 use block::Block;
@@ -45,7 +45,8 @@ fn column(s: [[u8; 4]; 4], c: usize) -> u32
 impl Aes128 {
     // The cipher under the key of these 16 bytes.
     pub fn new(key: [u8; 16]) -> Aes128
-        ensures { λ r. ⌜ cellsOf (r .keys) ≡ roundKeys key ⌝ }
+        ensures keys { λ r. ⌜ cellsOf (r .keys) ≡ roundKeys key ⌝ }
+        ensures words { λ r. ⌜ ((i : ℕ) → i < 44 → wordAt (cellsOf (r .keys)) i ≡ numberOf (getD (expandedKey key) i [])) ⌝ }
     {
         let keys = expansion::expand(key);
         Aes128 { keys }
