@@ -1,6 +1,6 @@
 -- The round keys, one made from the other, are the words of the key expansion.
 use mathlib.Core.Path.{_≡_, refl, sym, ap, ap₂, subst, _∙_}
-use mathlib.Core.Bool.{Bool, cond, false}
+use mathlib.Core.Bool.{Bool, cond, true, false}
 use mathlib.Core.List.{List, [], _∷_}
 use mathlib.Core.Logic.{⊎-elim, _≢_}
 use Prim.Native.Nat.{ℕ, zero, suc, _+_, _-_, _*_, _/_, _%_, _^_, _<_, _≤_}
@@ -12,14 +12,15 @@ use lib.Dec.{eqb}
 use lib.ListN.{getD, set, length, length-set}
 use Rattle.std.proofs.shelf.Lists.{getD-set-same, getD-set-other}
 use Rattle.std.proofs.shelf.Tests.{cases-lt}
+use Rattle.block.specs.Bytes.{numberOf}
 use Rattle.gf256.specs.Field.{timesX, product, power}
 use Rattle.gf256.specs.FieldLaws.{times-two, power-fits}
 use Rattle.gf256.specs.Substitution.{substituted}
 use Rattle.gf256.specs.SubstitutionLaws.{substitution-undo}
-use Rattle.aes.specs.State.{State, cell, rowsOf}
+use Rattle.aes.specs.State.{State, cell, rowsOf, columnThen}
 use Rattle.aes.specs.StateLaws.{Row, row, Square, square, square-cells, rows-square}
 use Rattle.aes.specs.Steps.{sumRow}
-use Rattle.aes.specs.KeyExpansion.{rotWord, subWord, roundConstant, nextWord, wordsFrom, keyWord, expandedKey, columnsAre, byFour, roundKeys}
+use Rattle.aes.specs.KeyExpansion.{rotWord, subWord, roundConstant, nextWord, wordsFrom, keyWord, expandedKey, columnsAre, byFour, roundKeys, wordAt}
 use Rattle.aes.specs.CipherLaws.{AllKeyBytes}
 use Rattle.aes.specs.RoundKeys.{cellsOf, nextRow, nextKey}
 use Rattle.aes.specs.declared.round.Round.{Round}
@@ -192,3 +193,53 @@ expanding-all key i c ks z e =
 
 pub round-keys-bytes : (key : List ℕ) → ((i : ℕ) → getD key i 0 < 2 ^ 8) → AllKeyBytes (roundKeys key)
 round-keys-bytes key h = subst AllKeyBytes (sym (keys-are key)) (keys-bytes (rowsOf key) (rows-square key h) 11 0)
+
+-- a word of the expansion is a column of a round key
+
+data Word : List ℕ → Type 0 where
+  word : (a b c d : ℕ) → Word (a ∷ b ∷ c ∷ d ∷ [])
+
+whole : {w : List ℕ} → Word w → getD w 0 0 ∷ getD w 1 0 ∷ getD w 2 0 ∷ getD w 3 0 ∷ [] ≡ w
+whole (word a b c d) = refl
+
+either-word : (b : Bool) (x y : List ℕ) → Word x → Word y → Word (cond b x y)
+either-word true x y u v = u
+either-word false x y u v = v
+
+sum-word : (a d : List ℕ) → Word (sumRow a d)
+sum-word a d = word (bitXor (getD a 0 0) (getD d 0 0)) (bitXor (getD a 1 0) (getD d 1 0)) (bitXor (getD a 2 0) (getD d 2 0)) (bitXor (getD a 3 0) (getD d 3 0))
+
+next-word : (i : ℕ) (a d : List ℕ) → Word (nextWord i a d)
+unfolding nextWord
+next-word i a d =
+    either-word (eqb (i % 4) 0) (sumRow a (sumRow (subWord (rotWord d)) (roundConstant (i / 4)))) (sumRow a d)
+    (sum-word a (sumRow (subWord (rotWord d)) (roundConstant (i / 4)))) (sum-word a d)
+
+abbrev columnAt : List State → ℕ → List ℕ
+columnAt ks k = columnThen (getD ks (k / 4) []) (k % 4) []
+
+columns-words : (n m k : ℕ) {a b c d : List ℕ} → Word a → Word b → Word c → Word d → k < four n
+    → columnAt (byFour n (wordsFrom (four n) m a b c d)) k ≡ getD (wordsFrom (four n) m a b c d) k []
+unfolding byFour wordsFrom
+columns-words zero m k p q u v h = absurd (omega arith)
+columns-words (suc n) m zero p q u v h = whole p
+columns-words (suc n) m (suc zero) p q u v h = whole q
+columns-words (suc n) m (suc (suc zero)) p q u v h = whole u
+columns-words (suc n) m (suc (suc (suc zero))) p q u v h = whole v
+columns-words (suc n) m (suc (suc (suc (suc k)))) {a} {b} {c} {d} p q u v h =
+    let e : List ℕ = nextWord (m + 4) a d in
+    let f : List ℕ = nextWord (suc m + 4) b e in
+    let g : List ℕ = nextWord (suc (suc m) + 4) c f in
+    let w : List ℕ = nextWord (suc (suc (suc m)) + 4) d g in
+    let ks : List State = byFour n (wordsFrom (four n) (suc (suc (suc (suc m)))) e f g w) in
+    let quot : suc (suc (suc (suc k))) / 4 ≡ suc (k / 4) = omega arith in
+    let rem : suc (suc (suc (suc k))) % 4 ≡ k % 4 = omega arith in
+    ap₂ (λ (x y : ℕ). columnThen (getD (columnsAre a b c d ∷ ks) x []) y []) quot rem
+    ∙ columns-words n (suc (suc (suc (suc m)))) k (next-word (m + 4) a d) (next-word (suc m + 4) b e) (next-word (suc (suc m) + 4) c f) (next-word (suc (suc (suc m)) + 4) d g) (omega arith)
+
+pub round-key-words : (key : List ℕ) (i : ℕ) → i < 44 → wordAt (roundKeys key) i ≡ numberOf (getD (expandedKey key) i [])
+unfolding roundKeys expandedKey
+round-key-words key i h =
+    ap numberOf (columns-words 11 0 i
+    (word (getD key 0 0) (getD key 1 0) (getD key 2 0) (getD key 3 0)) (word (getD key 4 0) (getD key 5 0) (getD key 6 0) (getD key 7 0))
+    (word (getD key 8 0) (getD key 9 0) (getD key 10 0) (getD key 11 0)) (word (getD key 12 0) (getD key 13 0) (getD key 14 0) (getD key 15 0)) h)

@@ -6,7 +6,8 @@ use lib.Dec.{eqb}
 use lib.ListN.{getD}
 use Rattle.gf256.specs.Field.{power}
 use Rattle.gf256.specs.Substitution.{substituted}
-use Rattle.aes.specs.State.{State}
+use Rattle.block.specs.Bytes.{numberOf}
+use Rattle.aes.specs.State.{State, columnThen}
 use Rattle.aes.specs.Steps.{overRow, sumRow}
 
 -- the bytes of a word moved left by one place, counted round
@@ -55,3 +56,7 @@ byFour (suc n) (a ∷ b ∷ c ∷ d ∷ ws) = columnsAre a b c d ∷ byFour n ws
 
 unfoldable pub roundKeys : List ℕ → List State
 roundKeys key = byFour 11 (expandedKey key)
+
+-- word i as one number, read off round keys: a column of one of them
+abbrev pub wordAt : List State → ℕ → ℕ
+wordAt ks i = numberOf (columnThen (getD ks (i / 4) []) (i % 4) [])

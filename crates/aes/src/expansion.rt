@@ -1,9 +1,11 @@
 // The key expansion: from the 16 bytes of a key to eleven round keys.
+ghost use mathlib.Core.List.{[]};
 ghost use mathlib.Core.Path.{_≡_};
-ghost use Prim.Native.Nat.{ℕ};
-ghost use lib.Bits.{bitXor};
+ghost use Prim.Native.Nat.{ℕ, _<_};
+ghost use lib.ListN.{getD};
+ghost use Rattle.block.specs.Bytes.{numberOf};
 ghost use Rattle.aes.specs.CipherLaws.{AllKeyBytes};
-ghost use Rattle.aes.specs.KeyExpansion.{roundKeys};
+ghost use Rattle.aes.specs.KeyExpansion.{expandedKey, roundKeys, wordAt};
 ghost use Rattle.aes.specs.RoundKeys.{cellsOf, nextRow, nextKey};
 use crate::round::Round;
 use crate::steps::rows_of;
@@ -35,8 +37,9 @@ fn next_key(key: Round, constant: u8) -> Round
 }
 
 // The eleven round keys. The round constants are the powers of x in the field.
-pub fn expand(key: [u8; 16]) -> [Round; 11]
+pub(crate) fn expand(key: [u8; 16]) -> [Round; 11]
     ensures keys { λ r. ⌜ cellsOf r ≡ roundKeys key ⌝ }
+    ensures words { λ r. ⌜ ((i : ℕ) → i < 44 → wordAt (cellsOf r) i ≡ numberOf (getD (expandedKey key) i [])) ⌝ }
     ensures bytes { λ r. ⌜ AllKeyBytes (cellsOf r) ⌝ }
 {
     let first = Round {

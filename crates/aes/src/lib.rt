@@ -7,7 +7,7 @@ ghost use Rattle.block.specs.Bytes.{numberOf};
 ghost use Rattle.std.specs.Options.{Cases as BySome};
 ghost use Rattle.aes.specs.Cipher.{round, lastRound, invRound, invLastRound, enciphered, deciphered, cipher, invCipher};
 ghost use Rattle.aes.specs.CipherLaws.{AllKeyBytes, cipher-undo};
-ghost use Rattle.aes.specs.KeyExpansion.{roundKeys};
+ghost use Rattle.aes.specs.KeyExpansion.{expandedKey, roundKeys, wordAt};
 ghost use Rattle.aes.specs.RoundKeys.{cellsOf};
 ghost use Rattle.aes.specs.State.{columnThen};
 use block::Block;
@@ -45,7 +45,8 @@ fn column(s: [[u8; 4]; 4], c: usize) -> u32
 impl Aes128 {
     // The cipher under the key of these 16 bytes.
     pub fn new(key: [u8; 16]) -> Aes128
-        ensures { λ r. ⌜ cellsOf (r .keys) ≡ roundKeys key ⌝ }
+        ensures keys { λ r. ⌜ cellsOf (r .keys) ≡ roundKeys key ⌝ }
+        ensures words { λ r. ⌜ ((i : ℕ) → i < 44 → wordAt (cellsOf (r .keys)) i ≡ numberOf (getD (expandedKey key) i [])) ⌝ }
     {
         let keys = expansion::expand(key);
         Aes128 { keys }
@@ -53,7 +54,7 @@ impl Aes128 {
 
     // Word i of the expanded key, of which there are 44: column i mod 4 of round key i / 4.
     pub fn word(&self, i: usize) -> Option<u32>
-        ensures { λ r. ⌜ BySome r (44 ≤ i) (λ w. (i < 44) × (w ≡ numberOf (columnThen (getD (cellsOf (now (self .entry) .keys)) (i / 4) []) (i % 4) []))) ⌝ }
+        ensures { λ r. ⌜ BySome r (44 ≤ i) (λ w. (i < 44) × (w ≡ wordAt (cellsOf (now (self .entry) .keys)) i)) ⌝ }
     {
         if i < 44 {
             Some(column(self.round_key(i / 4), i % 4))
@@ -62,6 +63,7 @@ impl Aes128 {
         }
     }
 
+    // Round key n.
     fn round_key(&self, n: usize) -> [[u8; 4]; 4]
         requires { ⌜ n < 11 ⌝ }
         ensures { λ r. ⌜ r ≡ getD (cellsOf (now (self .entry) .keys)) n [] ⌝ }

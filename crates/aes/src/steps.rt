@@ -14,7 +14,7 @@ use gf256::substitute;
 use gf256::unmix_byte;
 
 // Byte i of 16 lies in row i mod 4, column i / 4.
-pub fn rows_of(b: [u8; 16]) -> [[u8; 4]; 4]
+pub(crate) fn rows_of(b: [u8; 16]) -> [[u8; 4]; 4]
     ensures rows { λ r. ⌜ r ≡ rowsOf b ⌝ }
     ensures bytes { λ _. ⌜ ((i : ℕ) → getD b i 0 < 2 ^ 8) ⌝ }
 {
@@ -27,14 +27,14 @@ pub fn rows_of(b: [u8; 16]) -> [[u8; 4]; 4]
 }
 
 // The state that a block begins as.
-pub fn state_of(block: Block) -> [[u8; 4]; 4]
+pub(crate) fn state_of(block: Block) -> [[u8; 4]; 4]
     ensures { λ r. ⌜ r ≡ stateOf block ⌝ }
 {
     rows_of(block.to_be_bytes())
 }
 
 // The block that a state stands for.
-pub fn block_of(s: [[u8; 4]; 4]) -> Block
+pub(crate) fn block_of(s: [[u8; 4]; 4]) -> Block
     ensures { λ r. ⌜ r ≡ blockOf s ⌝ }
 {
     let [p, q, u, v] = s;
@@ -70,7 +70,7 @@ fn sub_row(w: [u8; 4]) -> [u8; 4]
 }
 
 // Substitution: each byte by the one that stands for it.
-pub fn sub_bytes(s: [[u8; 4]; 4]) -> [[u8; 4]; 4]
+pub(crate) fn sub_bytes(s: [[u8; 4]; 4]) -> [[u8; 4]; 4]
     ensures { λ r. ⌜ r ≡ subBytes s ⌝ }
 {
     [sub_row(s[0]), sub_row(s[1]), sub_row(s[2]), sub_row(s[3])]
@@ -83,7 +83,7 @@ fn inv_sub_row(w: [u8; 4]) -> [u8; 4]
 }
 
 // Each byte by the one that it stands for.
-pub fn inv_sub_bytes(s: [[u8; 4]; 4]) -> [[u8; 4]; 4]
+pub(crate) fn inv_sub_bytes(s: [[u8; 4]; 4]) -> [[u8; 4]; 4]
     ensures { λ r. ⌜ r ≡ invSubBytes s ⌝ }
 {
     [
@@ -95,7 +95,7 @@ pub fn inv_sub_bytes(s: [[u8; 4]; 4]) -> [[u8; 4]; 4]
 }
 
 // Row shift: row i moves left by i places.
-pub fn shift_rows(s: [[u8; 4]; 4]) -> [[u8; 4]; 4]
+pub(crate) fn shift_rows(s: [[u8; 4]; 4]) -> [[u8; 4]; 4]
     ensures { λ r. ⌜ r ≡ shiftRows s ⌝ }
 {
     [
@@ -107,7 +107,7 @@ pub fn shift_rows(s: [[u8; 4]; 4]) -> [[u8; 4]; 4]
 }
 
 // Row i moves right by i places.
-pub fn inv_shift_rows(s: [[u8; 4]; 4]) -> [[u8; 4]; 4]
+pub(crate) fn inv_shift_rows(s: [[u8; 4]; 4]) -> [[u8; 4]; 4]
     ensures { λ r. ⌜ r ≡ invShiftRows s ⌝ }
 {
     [
@@ -131,7 +131,7 @@ fn mix_row(a: [u8; 4], b: [u8; 4], c: [u8; 4], d: [u8; 4]) -> [u8; 4]
 }
 
 // Column mix: each column times the fixed polynomial.
-pub fn mix_columns(s: [[u8; 4]; 4]) -> [[u8; 4]; 4]
+pub(crate) fn mix_columns(s: [[u8; 4]; 4]) -> [[u8; 4]; 4]
     ensures { λ r. ⌜ r ≡ mixColumns s ⌝ }
 {
     let [a, b, c, d] = s;
@@ -155,7 +155,7 @@ fn inv_mix_row(a: [u8; 4], b: [u8; 4], c: [u8; 4], d: [u8; 4]) -> [u8; 4]
 }
 
 // Each column times the inverse of that polynomial.
-pub fn inv_mix_columns(s: [[u8; 4]; 4]) -> [[u8; 4]; 4]
+pub(crate) fn inv_mix_columns(s: [[u8; 4]; 4]) -> [[u8; 4]; 4]
     ensures { λ r. ⌜ r ≡ invMixColumns s ⌝ }
 {
     let [a, b, c, d] = s;
@@ -174,7 +174,7 @@ fn add_row(a: [u8; 4], k: [u8; 4]) -> [u8; 4]
 }
 
 // Key addition, byte by byte: its own way back.
-pub fn add_round_key(s: [[u8; 4]; 4], k: [[u8; 4]; 4]) -> [[u8; 4]; 4]
+pub(crate) fn add_round_key(s: [[u8; 4]; 4], k: [[u8; 4]; 4]) -> [[u8; 4]; 4]
     ensures { λ r. ⌜ r ≡ addRoundKey s k ⌝ }
 {
     [
