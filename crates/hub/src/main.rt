@@ -16,8 +16,16 @@ use task::ValveHead;
 // Does the task with the cipher that the valve head has.
 fn serve(rt: &LibcRuntime, task: &Task) -> Result<(), AnyError> {
     match task.valve_head {
-        ValveHead::Battery => steps::exchange(rt, "Speck128/128", Speck::new(task.key), task),
-        ValveHead::Mains => steps::exchange(rt, "AES-128", Aes128::new(task.key), task),
+        ValveHead::Battery => {
+            let hub = Speck::new(task.key);
+            let valve = Speck::new(task.key);
+            steps::exchange(rt, "Speck128/128", hub, valve, task)
+        }
+        ValveHead::Mains => {
+            let hub = Aes128::new(task.key);
+            let valve = Aes128::new(task.key);
+            steps::exchange(rt, "AES-128", hub, valve, task)
+        }
     }
 }
 

@@ -1,8 +1,9 @@
-// The hub's input: a line each for the key, the kind of valve head, the number to seal under, and every probe offset.
+// The hub's input: a line each for the key, the kind of valve head, the ids, the first frame number, and every probe offset.
 use std::alloc::AllocError;
 use std::alloc::Global;
 use std::alloc::Refused;
 use std::fmt;
+use std::str::SplitWhitespace;
 use std::str::from_utf8;
 use task::Offset;
 use task::ValveHead;
@@ -12,7 +13,9 @@ use task::ValveHead;
 pub struct Task {
     pub key: [u8; 16],
     pub valve_head: ValveHead,
-    pub number: u32,
+    pub hub_id: u8,
+    pub valve_id: u8,
+    pub number: u64,
     pub offsets: Vec<Offset>,
 }
 
@@ -25,12 +28,14 @@ pub enum Reason {
     WordTooMany,
     NotAKey,
     NotAValveHead,
+    NotAnId,
     NotANumber,
     NotASerial,
     NotHundredths,
     SaidTwice,
     NoKey,
     NoValveHead,
+    NoIds,
     NoNumber,
     OutOfMemory,
 }
@@ -53,18 +58,20 @@ impl Reason {
         match self {
             Reason::NotText => "the input is not text in UTF-8",
             Reason::UnknownWord =>
-                "a line begins with key, head, number or offset, or with # for a remark",
+                "a line begins with key, head, ids, number or offset, or with # for a remark",
             Reason::WordMissing => "the line ends too early",
             Reason::WordTooMany => "the line has a word too many",
             Reason::NotAKey => "a key is 32 hexadecimal digits",
             Reason::NotAValveHead => "a head is battery or mains",
-            Reason::NotANumber => "a number is written in decimal digits, from 0 to 4294967295",
+            Reason::NotAnId => "an id is written in decimal digits, from 0 to 255",
+            Reason::NotANumber => "a frame number is written in decimal digits",
             Reason::NotASerial => "a serial is written in decimal digits, from 0 to 4294967295",
             Reason::NotHundredths =>
                 "an offset is a whole number of hundredths of a kelvin, from -32768 to 32767",
             Reason::SaidTwice => "this was said before",
             Reason::NoKey => "the input ends without a key",
             Reason::NoValveHead => "the input ends without a head",
+            Reason::NoIds => "the input ends without ids",
             Reason::NoNumber => "the input ends without a number",
             Reason::OutOfMemory => "there is no memory left",
         }
@@ -86,14 +93,27 @@ pub impl fmt::Display for Unread as UnreadDisplay {
     }
 }
 
+// The hub's id and the valve head's.
+#[derive(Clone, Copy)]
+struct Ids {
+    hub: u8,
+    valve: u8,
+}
+
 // What one line says.
 #[derive(Clone, Copy)]
 enum Entry {
     Remark,
     Key([u8; 16]),
     ValveHead(ValveHead),
-    Number(u32),
+    Ids(Ids),
+    Number(u64),
     Offset(Offset),
+}
+
+// The next word of a line that has to go on.
+fn next_word<'a>(words: &mut SplitWhitespace<'a>) -> Result<&'a str, Reason> {
+    words.next().ok_or(Reason::WordMissing)
 }
 
 // Reads one line.
@@ -105,22 +125,19 @@ fn read_line(heap: Global, line: &str) -> Result<Entry, Reason> {
     if kind.starts_with('#') {
         return Ok(Entry::Remark);
     }
-    let Some(first) = words.next() else {
-        return Err(Reason::WordMissing);
-    };
+    let first = next_word(&mut words)?;
     let read = match kind {
         "key" => Entry::Key(task::key(heap, first)?.ok_or(Reason::NotAKey)?),
         "head" => Entry::ValveHead(task::valve_head(first).ok_or(Reason::NotAValveHead)?),
-        "number" => Entry::Number(task::serial(first).ok_or(Reason::NotANumber)?),
-        "offset" => {
-            let Some(second) = words.next() else {
-                return Err(Reason::WordMissing);
-            };
-            Entry::Offset(Offset {
-                serial: task::serial(first).ok_or(Reason::NotASerial)?,
-                hundredths: task::hundredths(second).ok_or(Reason::NotHundredths)?,
-            })
-        }
+        "ids" => Entry::Ids(Ids {
+            hub: task::id(first).ok_or(Reason::NotAnId)?,
+            valve: task::id(next_word(&mut words)?).ok_or(Reason::NotAnId)?,
+        }),
+        "number" => Entry::Number(task::number(first).ok_or(Reason::NotANumber)?),
+        "offset" => Entry::Offset(Offset {
+            serial: task::serial(first).ok_or(Reason::NotASerial)?,
+            hundredths: task::hundredths(next_word(&mut words)?).ok_or(Reason::NotHundredths)?,
+        }),
         _ => return Err(Reason::UnknownWord),
     };
     if words.next().is_some() {
@@ -134,7 +151,8 @@ fn read_line(heap: Global, line: &str) -> Result<Entry, Reason> {
 struct Draft {
     key: Option<[u8; 16]>,
     valve_head: Option<ValveHead>,
-    number: Option<u32>,
+    ids: Option<Ids>,
+    number: Option<u64>,
     offsets: Vec<Offset>,
 }
 
@@ -145,6 +163,7 @@ impl Draft {
             Entry::Remark => false,
             Entry::Key(key) => self.key.replace(key).is_some(),
             Entry::ValveHead(head) => self.valve_head.replace(head).is_some(),
+            Entry::Ids(ids) => self.ids.replace(ids).is_some(),
             Entry::Number(number) => self.number.replace(number).is_some(),
             Entry::Offset(offset) => {
                 self.offsets.push(offset)?;
@@ -163,12 +182,16 @@ impl Draft {
         let Draft {
             key,
             valve_head,
+            ids,
             number,
             offsets,
         } = self;
+        let ids = ids.ok_or(Reason::NoIds)?;
         Ok(Task {
             key: key.ok_or(Reason::NoKey)?,
             valve_head: valve_head.ok_or(Reason::NoValveHead)?,
+            hub_id: ids.hub,
+            valve_id: ids.valve,
             number: number.ok_or(Reason::NoNumber)?,
             offsets,
         })
@@ -180,6 +203,7 @@ fn read_text(heap: Global, text: &str) -> Result<Task, Unread> {
     let mut draft = Draft {
         key: None,
         valve_head: None,
+        ids: None,
         number: None,
         offsets: Vec::new(heap),
     };

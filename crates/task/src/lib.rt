@@ -13,6 +13,8 @@ pub use words::ValveHeadDebug;
 pub use words::ValveHeadEq;
 pub use words::ValveHeadPartialEq;
 pub use words::hundredths;
+pub use words::id;
 pub use words::key;
+pub use words::number;
 pub use words::serial;
 pub use words::valve_head;

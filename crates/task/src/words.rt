@@ -61,3 +61,17 @@ pub fn hundredths(word: &str) -> Option<i16>
 {
     word.parse::<i16>().ok()
 }
+
+// The frame number that a word of decimal digits writes, if it fits eight bytes.
+pub fn number(word: &str) -> Option<u64>
+    ensures { λ r. ⌜ Checked r (Numeral 10 (afterPlus (now (word .entry))) × (value 10 (afterPlus (now (word .entry))) < 2 ^ 64)) (value 10 (afterPlus (now (word .entry)))) ⌝ }
+{
+    word.parse::<u64>().ok()
+}
+
+// The id that a word of decimal digits writes, if it fits a byte.
+pub fn id(word: &str) -> Option<u8>
+    ensures { λ r. ⌜ Checked r (Numeral 10 (afterPlus (now (word .entry))) × (value 10 (afterPlus (now (word .entry))) < 2 ^ 8)) (value 10 (afterPlus (now (word .entry)))) ⌝ }
+{
+    word.parse::<u8>().ok()
+}

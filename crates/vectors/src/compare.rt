@@ -1,6 +1,7 @@
 // What a row claims, computed and compared.
 use crate::row::BlockRow;
 use crate::row::CipherName;
+use crate::row::FrameRow;
 use crate::row::HeaderRow;
 use crate::row::MaskingName;
 use crate::row::Row;
@@ -14,6 +15,7 @@ use cipher::Inverse;
 use cipher::InverseCipher;
 use cipher::Speck;
 use cipher::SpeckCipher;
+use frame::FrameFaultPartialEq;
 use masking::Doubling;
 use masking::DoublingMasking;
 use masking::Masking;
@@ -83,12 +85,46 @@ fn seal_holds<C: Cipher + Drop>(
     }
 }
 
+// Whether sealing gives the row's frame, and opening the frame gives its message back.
+fn frames<C: Cipher + Drop, M: Masking + Drop>(
+    heap: Global,
+    pair: &Pair<C, M>,
+    row: &FrameRow,
+) -> Result<bool, AllocError> {
+    let mut out = vec![in heap; 0u8; row.frame.len()]?;
+    let sealed = frame::seal(
+        pair,
+        row.sender,
+        row.number,
+        row.mode,
+        row.clear.as_slice(),
+        row.message.as_slice(),
+        out.as_mut_slice(),
+    );
+    let same = sealed == Ok(row.frame.len()) && out.as_slice() == row.frame.as_slice();
+    let mut back = vec![in heap; 1u8; row.message.len()]?;
+    let opened = frame::open(pair, row.frame.as_slice(), back.as_mut_slice());
+    Ok(same && opened == Ok(row.message.len()) && back.as_slice() == row.message.as_slice())
+}
+
+fn frame_holds<C: Cipher + Drop>(
+    heap: Global,
+    cipher: C,
+    row: &FrameRow,
+) -> Result<bool, AllocError> {
+    match row.masking {
+        MaskingName::Doubling => frames(heap, &Pair::new(cipher, Doubling), row),
+        MaskingName::Tower => frames(heap, &Pair::new(cipher, Tower), row),
+    }
+}
+
 // A row, with the cipher that it names.
 fn holds_under<C: Cipher + Drop>(heap: Global, cipher: C, row: &Row) -> Result<bool, AllocError> {
     match row {
         Row::Block(row) => Ok(block_holds(cipher, row)),
         Row::Header(row) => Ok(header_holds(cipher, row)),
         Row::Seal(row) => seal_holds(heap, cipher, row),
+        Row::Frame(row) => frame_holds(heap, cipher, row),
         _ => Ok(false),
     }
 }
@@ -99,6 +135,7 @@ fn cipher_named(row: &Row) -> CipherName {
         Row::Block(row) => row.cipher,
         Row::Header(row) => row.cipher,
         Row::Seal(row) => row.cipher,
+        Row::Frame(row) => row.cipher,
         _ => CipherName::Aes,
     }
 }
@@ -167,6 +204,16 @@ pub fn name(rt: &LibcRuntime, row: &Row) -> io::Result<()> {
             print!(
                 rt,
                 "{cipher}, {masking}, mode {mode}, header of {header} bytes, message of {message} bytes"
+            )
+        }
+        Row::Frame(row) => {
+            let mode = row.mode;
+            let masking = masking_text(row.masking);
+            let number = row.number;
+            let message = row.message.len();
+            print!(
+                rt,
+                "{cipher}, {masking}, mode {mode}, whole frame of number {number}, message of {message} bytes"
             )
         }
     }

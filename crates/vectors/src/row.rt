@@ -60,6 +60,19 @@ pub struct SealRow {
     pub tag: Block,
 }
 
+// A message and the whole frame that it is sealed into.
+#[derive(Drop)]
+pub struct FrameRow {
+    pub mode: u8,
+    pub cipher: CipherName,
+    pub masking: MaskingName,
+    pub sender: u8,
+    pub number: u64,
+    pub clear: Vec<u8>,
+    pub message: Vec<u8>,
+    pub frame: Vec<u8>,
+}
+
 #[derive(Drop)]
 pub enum Row {
     Remark,
@@ -68,6 +81,7 @@ pub enum Row {
     Word(WordRow),
     Header(HeaderRow),
     Seal(SealRow),
+    Frame(FrameRow),
 }
 
 // Why a line is not a row.
@@ -78,7 +92,7 @@ pub enum Unread {
     NotACipher,
     NotAMasking,
     NotHexadecimal,
-    NotAPlace,
+    NotANumber,
     OutOfMemory,
 }
 
@@ -92,13 +106,14 @@ impl Unread {
     // The reason in plain words.
     fn text(self) -> &'static str {
         match self {
-            Unread::UnknownRow => "a row begins with key, block, word, header-tag or seal",
+            Unread::UnknownRow => "a row begins with key, block, word, header-tag, seal or frame",
             Unread::WordMissing => "the row ends too early",
             Unread::NotACipher => "there is no such cipher",
             Unread::NotAMasking => "there is no such masking",
             Unread::NotHexadecimal =>
                 "bytes are written in pairs of hexadecimal digits, no bytes as -",
-            Unread::NotAPlace => "a place or a mode is a small decimal number",
+            Unread::NotANumber =>
+                "a place, a mode, a sender or a number is written in decimal digits",
             Unread::OutOfMemory => "there is no memory left",
         }
     }
@@ -179,7 +194,7 @@ fn word_row(mut words: Words) -> Result<Row, Unread> {
         .next()?
         .parse::<usize>()
         .ok()
-        .ok_or(Unread::NotAPlace)?;
+        .ok_or(Unread::NotANumber)?;
     let word = words.next()?;
     let word = u32::from_str_radix(word, 16)
         .ok()
@@ -201,7 +216,7 @@ fn header_row(heap: Global, mut words: Words) -> Result<Row, Unread> {
 }
 
 fn seal_row(heap: Global, mut words: Words) -> Result<Row, Unread> {
-    let mode = words.next()?.parse::<u8>().ok().ok_or(Unread::NotAPlace)?;
+    let mode = words.next()?.parse::<u8>().ok().ok_or(Unread::NotANumber)?;
     let cipher = cipher_of(words.next()?)?;
     let masking = masking_of(words.next()?)?;
     let nonce = block_of(heap, words.next()?)?;
@@ -221,6 +236,27 @@ fn seal_row(heap: Global, mut words: Words) -> Result<Row, Unread> {
     }))
 }
 
+fn frame_row(heap: Global, mut words: Words) -> Result<Row, Unread> {
+    let mode = words.next()?.parse::<u8>().ok().ok_or(Unread::NotANumber)?;
+    let cipher = cipher_of(words.next()?)?;
+    let masking = masking_of(words.next()?)?;
+    let sender = words.next()?.parse::<u8>().ok().ok_or(Unread::NotANumber)?;
+    let number = words.next()?.parse::<u64>().ok().ok_or(Unread::NotANumber)?;
+    let clear = bytes_of(heap, words.next()?)?;
+    let message = bytes_of(heap, words.next()?)?;
+    let frame = bytes_of(heap, words.next()?)?;
+    Ok(Row::Frame(FrameRow {
+        mode,
+        cipher,
+        masking,
+        sender,
+        number,
+        clear,
+        message,
+        frame,
+    }))
+}
+
 // Reads one line.
 pub fn read(heap: Global, line: &str) -> Result<Row, Unread> {
     let mut rest = line.split_whitespace();
@@ -234,6 +270,7 @@ pub fn read(heap: Global, line: &str) -> Result<Row, Unread> {
         "word" => word_row(words),
         "header-tag" => header_row(heap, words),
         "seal" => seal_row(heap, words),
+        "frame" => frame_row(heap, words),
         _ => {
             if kind.starts_with('#') {
                 Ok(Row::Remark)
