@@ -37,7 +37,22 @@ const LONG: [usize; 4] = [1_008, 1_023, 1_024, 1_025];
 const HEADERS: [usize; 7] = [0, 1, 15, 16, 17, 32, 33];
 
 const KEY: [u8; 16] = [
-    0x2b, 0x7e, 0x15, 0x16, 0x28, 0xae, 0xd2, 0xa6, 0xab, 0xf7, 0x15, 0x88, 0x09, 0xcf, 0x4f, 0x3c,
+    0x2b,
+    0x7e,
+    0x15,
+    0x16,
+    0x28,
+    0xae,
+    0xd2,
+    0xa6,
+    0xab,
+    0xf7,
+    0x15,
+    0x88,
+    0x09,
+    0xcf,
+    0x4f,
+    0x3c,
 ];
 
 // The lengths of message and header at which the cipher's calls are shown.
@@ -115,15 +130,15 @@ fn show_calls(rt: &impl Print) -> io::Result<Tally> {
 fn main(rt: LibcRuntime) -> io::Result<()> {
     let mut total = under_maskings(&rt, "identity", &Identity)?;
     let inverse = Inverse { inner: Identity };
-    total.add(under_maskings(&rt, "identity, inverted", &inverse)?);
+    total.add(under_maskings(&rt, "inverse of identity", &inverse)?);
     let aes = Aes128::new(KEY);
-    total.add(under_maskings(&rt, "aes", &aes)?);
+    total.add(under_maskings(&rt, "AES", &aes)?);
     let inverse = Inverse { inner: aes };
-    total.add(under_maskings(&rt, "aes, inverted", &inverse)?);
+    total.add(under_maskings(&rt, "inverse of AES", &inverse)?);
     let speck = Speck::new(KEY);
-    total.add(under_maskings(&rt, "speck", &speck)?);
+    total.add(under_maskings(&rt, "Speck", &speck)?);
     let inverse = Inverse { inner: speck };
-    total.add(under_maskings(&rt, "speck, inverted", &inverse)?);
+    total.add(under_maskings(&rt, "inverse of Speck", &inverse)?);
     total.add(show_calls(&rt)?);
     println!(rt, "all: {total}")
 }
