@@ -1,9 +1,8 @@
 // How a refusal is written: one line, the same for every layer.
-ghost use mathlib.Core.Path.{_≡_};
 ghost use Rattle.std.specs.declared.option.Option.the-variants.{Some};
-ghost use Rattle.layer.specs.Layers.{nameOf};
 ghost use Rattle.layer.specs.Lines.{lineOf};
 use crate::Layer;
+use crate::LayerDisplay;
 use std::fmt;
 
 // The parts of such a line: a refusal's number and place, the layer where it arose, and why, in plain words.
@@ -15,24 +14,13 @@ pub struct Line {
     pub reason: &'static str,
 }
 
-// The layer's word in the line.
-fn word(layer: Layer) -> &'static str
-    ensures { λ r. ⌜ now r ≡ nameOf layer ⌝ }
-{
-    match layer {
-        Layer::Mode => "mode",
-        Layer::Frame => "frame",
-        Layer::Station => "station",
-    }
-}
-
 pub impl fmt::Display for Line as LineDisplay {
     ghost shown = { λ l. Some (lineOf (l .number) (l .place) (l .layer) (l .reason .now)) };
 
     fn fmt<W: fmt::Write>(&self, f: &mut fmt::Formatter<W>) -> fmt::Result {
         let number = self.number;
         let place = self.place;
-        let layer = word(self.layer);
+        let layer = self.layer;
         let reason = self.reason;
         write!(f, "{number} at {place} in {layer}: {reason}")
     }

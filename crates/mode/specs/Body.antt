@@ -9,14 +9,14 @@ use Rattle.block.specs.Cut.{before, blockCount, through, sumOf}
 use Rattle.masking.specs.Steps.{times}
 use Rattle.mode.specs.Sealing.{Maps, gamma, sealing, masked, padOf, body, Seals}
 
--- the first n blocks are body into the output, the rest of which is as it was; the sums are of what was read and written
+-- the first n blocks are ciphered into the output, the rest of which is as it was; the sums are of what was read and written
 pub record BlocksDone (w : Maps) (mode : Mode) (mask n : ℕ) (input was out : List ℕ) (read written last : ℕ) : Type 0 where
   pub out-is : out ≡ through (masked w (sealing w mode) mask) n input ++ drop (16 * n) was
   pub read-is : read ≡ sumOf (λ i x. x) n input
   pub written-is : written ≡ sumOf (masked w (sealing w mode) mask) n input
   pub last-is : last ≡ times (w .step) n mask
 
--- a whole string is body
+-- a whole string is ciphered
 pub record BodyDone (w : Maps) (mode : Mode) (nonce : ℕ) (input out : List ℕ) (read written mask pad : ℕ) : Type 0 where
   pub out-is : out ≡ body (masked w (sealing w mode) (gamma w nonce)) (padOf w nonce (length input)) input
   pub read-is : read ≡ sumOf (λ i x. x) (before (length input)) input
