@@ -52,14 +52,16 @@ impl Reason {
     fn text(self) -> &'static str {
         match self {
             Reason::NotText => "the input is not text in UTF-8",
-            Reason::UnknownWord => "a line begins with key, head, number or offset, or with # for a remark",
+            Reason::UnknownWord =>
+                "a line begins with key, head, number or offset, or with # for a remark",
             Reason::WordMissing => "the line ends too early",
             Reason::WordTooMany => "the line has a word too many",
             Reason::NotAKey => "a key is 32 hexadecimal digits",
             Reason::NotAValveHead => "a head is battery or mains",
             Reason::NotANumber => "a number is written in decimal digits, from 0 to 4294967295",
             Reason::NotASerial => "a serial is written in decimal digits, from 0 to 4294967295",
-            Reason::NotHundredths => "an offset is a whole number of hundredths of a kelvin, from -32768 to 32767",
+            Reason::NotHundredths =>
+                "an offset is a whole number of hundredths of a kelvin, from -32768 to 32767",
             Reason::SaidTwice => "this was said before",
             Reason::NoKey => "the input ends without a key",
             Reason::NoValveHead => "the input ends without a head",
@@ -149,7 +151,11 @@ impl Draft {
                 false
             }
         };
-        if again { Err(Reason::SaidTwice) } else { Ok(()) }
+        if again {
+            Err(Reason::SaidTwice)
+        } else {
+            Ok(())
+        }
     }
 
     // The task, once all lines are read.

@@ -33,7 +33,10 @@ fn introduce(rt: &LibcRuntime, cipher: &str, task: &Task) -> Result<(), AnyError
         ValveHead::Battery => "battery",
         ValveHead::Mains => "mains",
     };
-    println!(rt, "The hub has {count} probe offsets for a valve head on {head}, whose cipher is {cipher}.")?;
+    println!(
+        rt,
+        "The hub has {count} probe offsets for a valve head on {head}, whose cipher is {cipher}."
+    )?;
     list(rt, task.offsets.as_slice())
 }
 
@@ -41,7 +44,10 @@ fn introduce(rt: &LibcRuntime, cipher: &str, task: &Task) -> Result<(), AnyError
 fn pack(rt: &LibcRuntime, offsets: &[Offset]) -> Result<Vec<u8>, AnyError> {
     let message = task::pack(rt.alloc(), offsets)?;
     let size = message.len();
-    println!(rt, "\nThe hub packs them into {size} bytes, six for each probe. In blocks of 16:")?;
+    println!(
+        rt,
+        "\nThe hub packs them into {size} bytes, six for each probe. In blocks of 16:"
+    )?;
     for block in message.as_slice().chunks(16) {
         let bytes = Hex(block);
         println!(rt, "   {bytes}")?;
@@ -72,7 +78,10 @@ fn refused(rt: &LibcRuntime, fault: ModeFault, out: &[u8]) -> Result<(), AnyErro
         ModeFault::OutputLength => "the room for the message is not of its length",
         ModeFault::NotSealed => "no message seals to these bytes",
     };
-    println!(rt, "   refused with {number} at place {place}, by the {layer}: {why}")?;
+    println!(
+        rt,
+        "   refused with {number} at place {place}, by the {layer}: {why}"
+    )?;
     let kept = out.iter().copied().max().unwrap_or(0);
     if kept == 0 {
         println!(rt, "   nothing of the message is left in the output")?;
@@ -81,9 +90,21 @@ fn refused(rt: &LibcRuntime, fault: ModeFault, out: &[u8]) -> Result<(), AnyErro
 }
 
 // The valve head opens what came in, and says what it holds.
-fn open<C: Cipher + Drop>(rt: &LibcRuntime, pair: &Pair<C, Doubling>, sealed: &Sealed, own: &[Offset]) -> Result<(), AnyError> {
+fn open<C: Cipher + Drop>(
+    rt: &LibcRuntime,
+    pair: &Pair<C, Doubling>,
+    sealed: &Sealed,
+    own: &[Offset],
+) -> Result<(), AnyError> {
     let mut out = vec![in rt.alloc(); 1u8; sealed.bytes.len()]?;
-    let opened = pair.open(sealed.mode, sealed.nonce, &sealed.clear, sealed.bytes.as_slice(), sealed.tag, out.as_mut_slice());
+    let opened = pair.open(
+        sealed.mode,
+        sealed.nonce,
+        &sealed.clear,
+        sealed.bytes.as_slice(),
+        sealed.tag,
+        out.as_mut_slice(),
+    );
     match opened {
         Err(fault) => refused(rt, fault, out.as_slice()),
         Ok(()) => {
@@ -101,14 +122,24 @@ fn open<C: Cipher + Drop>(rt: &LibcRuntime, pair: &Pair<C, Doubling>, sealed: &S
 }
 
 // The hub seals the message, and says what goes out.
-fn seal<C: Cipher + Drop>(rt: &LibcRuntime, pair: &Pair<C, Doubling>, mode: Mode, nonce: Block, task: &Task, message: &[u8]) -> Result<Sealed, AnyError> {
+fn seal<C: Cipher + Drop>(
+    rt: &LibcRuntime,
+    pair: &Pair<C, Doubling>,
+    mode: Mode,
+    nonce: Block,
+    task: &Task,
+    message: &[u8],
+) -> Result<Sealed, AnyError> {
     let clear = (task.offsets.len() as u64).to_be_bytes();
     let mut bytes = vec![in rt.alloc(); 0u8; message.len()]?;
     let Ok(tag) = pair.seal(mode, nonce, &clear, message, bytes.as_mut_slice()) else {
         return Err("the hub could not seal".into());
     };
     let value = mode.value();
-    println!(rt, "\nThe hub seals them in mode {value} under the number {nonce}:")?;
+    println!(
+        rt,
+        "\nThe hub seals them in mode {value} under the number {nonce}:"
+    )?;
     let shown = Hex(&clear);
     println!(rt, "   in the clear {shown}")?;
     let shown = Hex(bytes.as_slice());
@@ -133,18 +164,36 @@ fn flip(sealed: &mut Sealed) {
 }
 
 // Seals in one mode; the valve head opens that, and then the same with one bit flipped on the way.
-fn both_ends<C: Cipher + Drop>(rt: &LibcRuntime, pair: &Pair<C, Doubling>, mode: Mode, nonce: Block, task: &Task, message: &[u8]) -> Result<(), AnyError> {
+fn both_ends<C: Cipher + Drop>(
+    rt: &LibcRuntime,
+    pair: &Pair<C, Doubling>,
+    mode: Mode,
+    nonce: Block,
+    task: &Task,
+    message: &[u8],
+) -> Result<(), AnyError> {
     let offsets = task.offsets.as_slice();
     let mut sealed = seal(rt, pair, mode, nonce, task, message)?;
-    println!(rt, "The valve head opens that with its own copy of the key:")?;
+    println!(
+        rt,
+        "The valve head opens that with its own copy of the key:"
+    )?;
     open(rt, pair, &sealed, offsets)?;
-    println!(rt, "The same comes in once more, with one bit flipped by the radio:")?;
+    println!(
+        rt,
+        "The same comes in once more, with one bit flipped by the radio:"
+    )?;
     flip(&mut sealed);
     open(rt, pair, &sealed, offsets)
 }
 
 // The whole task, in both modes. No number serves twice, so the second mode takes the next one.
-pub fn exchange<C: Cipher + Drop>(rt: &LibcRuntime, name: &str, cipher: C, task: &Task) -> Result<(), AnyError> {
+pub fn exchange<C: Cipher + Drop>(
+    rt: &LibcRuntime,
+    name: &str,
+    cipher: C,
+    task: &Task,
+) -> Result<(), AnyError> {
     let pair = Pair::new(cipher, Doubling);
     introduce(rt, name, task)?;
     let message = pack(rt, task.offsets.as_slice())?;

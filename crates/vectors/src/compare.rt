@@ -31,18 +31,35 @@ fn block_holds<C: Cipher + Drop>(cipher: C, row: &BlockRow) -> bool {
 }
 
 // Whether sealing gives the row's bytes and tag, and opening gives its message back.
-fn seals<C: Cipher + Drop, M: Masking + Drop>(heap: Global, pair: &Pair<C, M>, row: &SealRow) -> Result<bool, AllocError> {
+fn seals<C: Cipher + Drop, M: Masking + Drop>(
+    heap: Global,
+    pair: &Pair<C, M>,
+    row: &SealRow,
+) -> Result<bool, AllocError> {
     let Some(mode) = Mode::of(row.mode) else {
         return Ok(false);
     };
     let header = row.header.as_slice();
     let mut out = vec![in heap; 0u8; row.message.len()]?;
-    let Ok(tag) = pair.seal(mode, row.nonce, header, row.message.as_slice(), out.as_mut_slice()) else {
+    let Ok(tag) = pair.seal(
+        mode,
+        row.nonce,
+        header,
+        row.message.as_slice(),
+        out.as_mut_slice(),
+    ) else {
         return Ok(false);
     };
     let same = tag == row.tag && out.as_slice() == row.sealed.as_slice();
     let mut back = vec![in heap; 1u8; row.sealed.len()]?;
-    let opened = pair.open(mode, row.nonce, header, row.sealed.as_slice(), row.tag, back.as_mut_slice());
+    let opened = pair.open(
+        mode,
+        row.nonce,
+        header,
+        row.sealed.as_slice(),
+        row.tag,
+        back.as_mut_slice(),
+    );
     Ok(same && opened.is_ok() && back.as_slice() == row.message.as_slice())
 }
 
@@ -55,7 +72,11 @@ fn header_holds<C: Cipher + Drop>(cipher: C, row: &HeaderRow) -> bool {
     }
 }
 
-fn seal_holds<C: Cipher + Drop>(heap: Global, cipher: C, row: &SealRow) -> Result<bool, AllocError> {
+fn seal_holds<C: Cipher + Drop>(
+    heap: Global,
+    cipher: C,
+    row: &SealRow,
+) -> Result<bool, AllocError> {
     match row.masking {
         MaskingName::Doubling => seals(heap, &Pair::new(cipher, Doubling), row),
         MaskingName::Tower => seals(heap, &Pair::new(cipher, Tower), row),
@@ -143,7 +164,10 @@ pub fn name(rt: &LibcRuntime, row: &Row) -> io::Result<()> {
             let masking = masking_text(row.masking);
             let header = row.header.len();
             let message = row.message.len();
-            print!(rt, "{cipher}, {masking}, mode {mode}, header of {header} bytes, message of {message} bytes")
+            print!(
+                rt,
+                "{cipher}, {masking}, mode {mode}, header of {header} bytes, message of {message} bytes"
+            )
         }
     }
 }

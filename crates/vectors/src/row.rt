@@ -96,7 +96,8 @@ impl Unread {
             Unread::WordMissing => "the row ends too early",
             Unread::NotACipher => "there is no such cipher",
             Unread::NotAMasking => "there is no such masking",
-            Unread::NotHexadecimal => "bytes are written in pairs of hexadecimal digits, no bytes as -",
+            Unread::NotHexadecimal =>
+                "bytes are written in pairs of hexadecimal digits, no bytes as -",
             Unread::NotAPlace => "a place or a mode is a small decimal number",
             Unread::OutOfMemory => "there is no memory left",
         }
@@ -174,9 +175,15 @@ fn block_row(heap: Global, mut words: Words) -> Result<Row, Unread> {
 }
 
 fn word_row(mut words: Words) -> Result<Row, Unread> {
-    let place = words.next()?.parse::<usize>().ok().ok_or(Unread::NotAPlace)?;
+    let place = words
+        .next()?
+        .parse::<usize>()
+        .ok()
+        .ok_or(Unread::NotAPlace)?;
     let word = words.next()?;
-    let word = u32::from_str_radix(word, 16).ok().ok_or(Unread::NotHexadecimal)?;
+    let word = u32::from_str_radix(word, 16)
+        .ok()
+        .ok_or(Unread::NotHexadecimal)?;
     Ok(Row::Word(WordRow { place, word }))
 }
 
