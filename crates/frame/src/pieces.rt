@@ -1,11 +1,12 @@
 // The parts of a frame, as its head gives them.
 ghost use mathlib.Core.Path.{_≡_};
-ghost use Prim.Native.Nat.{_≤_};
-ghost use lib.ListN.{length};
+ghost use Prim.Native.Nat.{_+_, _-_, _≤_};
+ghost use lib.ListN.{length, take, drop};
 ghost use Rattle.std.specs.declared.option.Option.the-variants.{Some, None};
 ghost use Rattle.block.specs.Bytes.{numberOf};
-ghost use Rattle.frame.specs.Fields.{Breaks, AllHold};
-ghost use Rattle.frame.specs.Gives.{PartsGives};
+ghost use Rattle.mode.specs.Values.{modeValue};
+ghost use Rattle.frame.specs.Fields.{modeByte, tagStart, Breaks, AllHold};
+ghost use Rattle.frame.specs.Gives.{PartsOf, PartsGives};
 use crate::fault::FrameFault;
 use crate::fault::HeadField;
 use mode::Mode;
@@ -78,6 +79,47 @@ fn bad_field(frame: &[u8]) -> Option<HeadField>
     None
 }
 
+// Where a frame's tag ends, by its head.
+fn end(frame: &[u8]) -> usize
+    requires { ⌜ 48 ≤ length (now frame) ⌝ ∗ ⌜ AllHold (now frame) ⌝ }
+    ensures { λ r. ⌜ r ≡ tagStart (now (frame .entry)) + 16 ⌝ }
+{
+    number(&frame[10..12]) as usize + 16
+}
+
+// The piece of a frame from one place to another.
+fn piece_of(frame: &[u8], at: usize, end: usize) -> Piece<'_>
+    requires { ⌜ at ≤ end ⌝ ∗ ⌜ end ≤ length (now frame) ⌝ }
+    ensures place { λ r. ⌜ r .at ≡ at ⌝ }
+    ensures bytes { λ r. ⌜ now (r .bytes) ≡ take (end - at) (drop at (now (frame .entry))) ⌝ }
+{
+    Piece {
+        at,
+        bytes: &frame[at..end],
+    }
+}
+
+// Cuts a frame whose head keeps every rule, and that ends where its tag does.
+fn cut(frame: &[u8], mode: Mode) -> FrameParts<'_>
+    requires long { ⌜ 48 ≤ length (now frame) ⌝ }
+    requires known { ⌜ modeByte (now frame) ≡ modeValue mode ⌝ }
+    requires fields { ⌜ AllHold (now frame) ⌝ }
+    requires whole { ⌜ length (now frame) ≡ tagStart (now frame) + 16 ⌝ }
+    ensures { λ r. ⌜ PartsOf (now (frame .entry)) r ⌝ }
+{
+    let sealed_at = number(&frame[8..10]) as usize;
+    let tag_at = number(&frame[10..12]) as usize;
+    FrameParts {
+        mode,
+        sender: frame[16],
+        number: number(&frame[26..32]),
+        header: &frame[0..sealed_at],
+        clear: piece_of(frame, 32, sealed_at),
+        sealed: piece_of(frame, sealed_at, tag_at),
+        tag: piece_of(frame, tag_at, frame.len()),
+    }
+}
+
 // Hands out the parts of a frame as pieces of it.
 pub fn parts(frame: &[u8]) -> Result<FrameParts<'_>, FrameFault>
     ensures { λ r. ⌜ PartsGives (now (frame .entry)) r ⌝ }
@@ -91,27 +133,8 @@ pub fn parts(frame: &[u8]) -> Result<FrameParts<'_>, FrameFault>
     if let Some(field) = bad_field(frame) {
         return Err(FrameFault::BadField(field));
     }
-    let sealed_at = number(&frame[8..10]) as usize;
-    let tag_at = number(&frame[10..12]) as usize;
-    if frame.len() != tag_at + 16 {
+    if frame.len() != end(frame) {
         return Err(FrameFault::FrameLength);
     }
-    Ok(FrameParts {
-        mode,
-        sender: frame[16],
-        number: number(&frame[26..32]),
-        header: &frame[0..sealed_at],
-        clear: Piece {
-            at: 32,
-            bytes: &frame[32..sealed_at],
-        },
-        sealed: Piece {
-            at: sealed_at,
-            bytes: &frame[sealed_at..tag_at],
-        },
-        tag: Piece {
-            at: tag_at,
-            bytes: &frame[tag_at..],
-        },
-    })
+    Ok(cut(frame, mode))
 }

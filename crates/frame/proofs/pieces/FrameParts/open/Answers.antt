@@ -1,9 +1,0 @@
-use native.Mathlib.Omega.{arith}
-use Rattle.mode.specs.Pairs.{mapsOf}
-use Rattle.frame.proofs.Opening.{parts-opened}
-use Rattle.frame.proofs.pieces.FrameParts.open.Needs as need
-
-pub returns : need.returns
-returns g c =
-    parts-opened (mapsOf (g .C·Cipher .forward) (g .C·Cipher .backward) (g .M·Masking .onward) (g .M·Masking .inward) (c .args .pair .now)) (c .args .self) (c .args .out .now) (c .open .last .out)
-    (c .load-nonce .result) (c .load-tag .result) (c .if-out-len .left) (c .load-nonce .ensures) (c .load-tag .ensures) (c .in-Continue-open .ensures tt .1)
