@@ -1,32 +1,19 @@
 -- Opening over the parts that were checked.
 use mathlib.Core.List.{List}
-use mathlib.Core.Path.{_≡_, refl, sym, _∙_}
-use Prim.Native.Nat.{ℕ, _<_, _≤_}
-use native.Mathlib.Omega.{arith}
+use Prim.Native.Nat.{ℕ}
 use Rattle.std.specs.declared.result.Result.the-variants.{Ok, Err}
 use Rattle.mode.specs.declared.fault.ModeFault.the-variants.{OutputLength, NotSealed}
 use Rattle.mode.specs.Sealing.{Maps}
 use Rattle.frame.specs.declared.fault.FrameFault.{FrameFault}
 use Rattle.frame.specs.declared.fault.FrameFault.the-variants.{UnknownMode, ClearTooLong, MessageTooLong, OutputShort, FrameShort, BadField, FrameLength, Sealing}
 use Rattle.frame.specs.declared.pieces.FrameParts.{FrameParts}
-use Rattle.frame.specs.Fields.{senderOf, frameNumber}
 use Rattle.frame.specs.Gives.{PartsOf, PartsOpen, Opened}
 use Rattle.frame.proofs.Opening.{frame-opens}
 use Rattle.station.specs.declared.fault.StationFault.the-variants.{Frame}
 use Rattle.station.specs.declared.state.Station.{Station}
 use Rattle.station.specs.Steps.{Fit, OpenRefused}
 
-module _ {C M : Type 0} (w : Maps) (s : Station C M) (f was out : List ℕ) (p : FrameParts) (o : PartsOf f p)
-    (sender : p .sender ≡ s .peer .id) (above : s .peer .highest < p .number) where
-  pub sender-is : senderOf f ≡ s .peer .id
-  sender-is = sym (o .sender-is) ∙ sender
-
-  pub above-is : s .peer .highest < frameNumber f
-  above-is = let e = o .number-is in omega arith
-
-  fit : Fit s f
-  fit = (o .form, sender-is, above-is)
-
+module _ {C M : Type 0} (w : Maps) (s : Station C M) (f was out : List ℕ) (p : FrameParts) (o : PartsOf f p) (fit : Fit s f) where
   pub refused : (fault : FrameFault) → PartsOpen w p was out (Err fault) → OpenRefused w s f was out (Frame fault)
   refused UnknownMode h = absurd h
   refused ClearTooLong h = absurd h

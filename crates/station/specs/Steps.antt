@@ -16,7 +16,8 @@ use Rattle.frame.specs.declared.fault.FrameFault.{FrameFault}
 use Rattle.frame.specs.declared.fault.FrameFault.the-variants.{UnknownMode, ClearTooLong, MessageTooLong, OutputShort, FrameShort, BadField, FrameLength, Sealing}
 use Rattle.frame.specs.Fields.{sealedLength, senderOf, frameNumber}
 use Rattle.frame.specs.Form.{WellFormed, SealsTo}
-use Rattle.frame.specs.Gives.{Malformed, FrameSeals, Opened as FrameOpened}
+use Rattle.frame.specs.declared.pieces.FrameParts.{FrameParts}
+use Rattle.frame.specs.Gives.{PartsOf, Malformed, FrameSeals, Opened as FrameOpened}
 use Rattle.station.specs.declared.fault.StationFault.{StationFault}
 use Rattle.station.specs.declared.fault.StationFault.the-variants.{SameId, BadNumber, Exhausted, NotOut, UnknownSender, NotAbove, Frame}
 use Rattle.station.specs.declared.state.Opened.{Opened}
@@ -139,6 +140,27 @@ module _ {C M : Type 0} where
   -- a frame of the peer with a number above the highest
   abbrev pub Fit : Station C M → List ℕ → Type 0
   Fit s f = WellFormed f × (senderOf f ≡ s .peer .id) × (s .peer .highest < frameNumber f)
+
+  -- the parts of such a frame, or why it is not one
+  abbrev pub FitGives : Station C M → List ℕ → Result FrameParts StationFault → Type 0
+  FitGives s f (Ok p) = PartsOf f p × Fit s f
+  FitGives s f (Err SameId) = ⊥
+  FitGives s f (Err BadNumber) = ⊥
+  FitGives s f (Err Exhausted) = ⊥
+  FitGives s f (Err NotOut) = ⊥
+  FitGives s f (Err UnknownSender) = WellFormed f × (senderOf f ≡ s .peer .id → ⊥)
+  FitGives s f (Err NotAbove) = WellFormed f × (senderOf f ≡ s .peer .id) × (frameNumber f ≤ s .peer .highest)
+  FitGives s f (Err (Frame fault)) = Malformed f fault
+
+  -- the highest number is set, and nothing else
+  pub record Notes (s : Station C M) (number : ℕ) (t : Station C M) : Type 0 where
+    pub highest-is : t .peer .highest ≡ number
+    pub out-is : t .out ≡ s .out
+    pub next-is : t .next ≡ s .next
+    pub reserved-is : t .reserved ≡ s .reserved
+    pub sealed-is : t .sealed ≡ s .sealed
+    pub off-is : t .«written_off» ≡ s .«written_off»
+    pub stays : Stays s t
 
   abbrev pub OpenFrameRefused : Maps → Station C M → (f was out : List ℕ) → FrameFault → Type 0
   OpenFrameRefused w s f was out UnknownMode = Malformed f UnknownMode × (out ≡ was)

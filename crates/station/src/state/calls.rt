@@ -2,9 +2,12 @@
 ghost use mathlib.Core.Bool.{true};
 ghost use mathlib.Core.Path.{_≡_};
 ghost use Rattle.std.specs.Options.{isSome};
+ghost use Prim.Native.Nat.{ℕ};
+ghost use mathlib.Core.List.{List};
 ghost use Rattle.mode.specs.Pairs.{mapsOf};
+ghost use Rattle.frame.specs.Gives.{PartsOf};
 ghost use Rattle.station.specs.Events.{Reserve, GiveUp, Seal, Open};
-ghost use Rattle.station.specs.Steps.{Step, Founds, Spends, Settles};
+ghost use Rattle.station.specs.Steps.{Step, Founds, Spends, Settles, Fit, FitGives, Notes};
 ghost use Rattle.station.specs.Laws.{Lasts};
 use super::Opened;
 use super::Peer;
@@ -13,6 +16,7 @@ use super::Ticket;
 use crate::fault::StationFault;
 use crate::fault::StationFaultFromFrame;
 use cipher::Cipher;
+use frame::FrameParts;
 use masking::Masking;
 use mode::Pair;
 
@@ -20,9 +24,8 @@ use mode::Pair;
 const LAST: u64 = 281_474_976_710_655;
 
 impl<C: Cipher, M: Masking> Station<C, M> {
-    // A station over a cipher and a masking, with its own id, its peer's, the first number that it hands out, and the floor above which it opens.
-    // Whatever list of calls is then made on it keeps the laws.
-    pub fn new(
+    // A station that has done nothing yet, or why there is none.
+    fn fresh(
         pair: Pair<C, M>,
         own: u8,
         peer: u8,
@@ -32,8 +35,7 @@ impl<C: Cipher, M: Masking> Station<C, M> {
     where
         C: Drop,
         M: Drop,
-        ensures founds { λ r. ⌜ Founds pair own peer start floor r ⌝ }
-        ensures lasts { λ r. ⌜ Lasts (mapsOf (C·Cipher .forward) (C·Cipher .backward) (M·Masking .onward) (M·Masking .inward)) pair peer floor r ⌝ }
+        ensures { λ r. ⌜ Founds pair own peer start floor r ⌝ }
     {
         if own == peer {
             return Err(StationFault::SameId);
@@ -54,6 +56,41 @@ impl<C: Cipher, M: Masking> Station<C, M> {
             sealed: 0,
             written_off: 0,
         })
+    }
+
+    // The same, with the law that stands on it.
+    fn lawful(
+        pair: Pair<C, M>,
+        own: u8,
+        peer: u8,
+        start: u64,
+        floor: u64,
+    ) -> Result<Station<C, M>, StationFault>
+    where
+        C: Drop,
+        M: Drop,
+        ensures founds { λ r. ⌜ Founds pair own peer start floor r ⌝ }
+        ensures lasts { λ r. ⌜ Lasts (mapsOf (C·Cipher .forward) (C·Cipher .backward) (M·Masking .onward) (M·Masking .inward)) pair peer floor r ⌝ }
+    {
+        Station::fresh(pair, own, peer, start, floor)
+    }
+
+    // A station over a cipher and a masking, with its own id, its peer's, the first number that it hands out, and the floor above which it opens.
+    // Whatever list of calls is then made on it keeps the laws.
+    pub fn new(
+        pair: Pair<C, M>,
+        own: u8,
+        peer: u8,
+        start: u64,
+        floor: u64,
+    ) -> Result<Station<C, M>, StationFault>
+    where
+        C: Drop,
+        M: Drop,
+        ensures founds { λ r. ⌜ Founds pair own peer start floor r ⌝ }
+        ensures lasts { λ r. ⌜ Lasts (mapsOf (C·Cipher .forward) (C·Cipher .backward) (M·Masking .onward) (M·Masking .inward)) pair peer floor r ⌝ }
+    {
+        Station::lawful(pair, own, peer, start, floor)
     }
 
     // Hands out the next number on a ticket. A number that is still out is written off.
@@ -127,20 +164,42 @@ impl<C: Cipher, M: Masking> Station<C, M> {
         Ok(length)
     }
 
-    // Opens a frame of the peer, with a number above the highest, into the output's start.
-    pub fn open(&mut self, frame: &[u8], out: &mut [u8]) -> Result<Opened, StationFault>
-        ensures { λ r. ⌜ Step (mapsOf (C·Cipher .forward) (C·Cipher .backward) (M·Masking .onward) (M·Masking .inward)) (now (self .entry)) (Open (now (frame .entry)) (now (out .entry)) (now (out .exit)) r) (now (self .exit)) ⌝ }
+    // The parts of a frame of the peer with a number above the highest, or why it is not one.
+    fn fit<'a>(&self, frame: &'a [u8]) -> Result<FrameParts<'a>, StationFault>
+        ensures { λ r. ⌜ FitGives (now (self .entry)) (now (frame .entry)) r ⌝ }
     {
         let parts = frame::parts(frame)?;
         if parts.sender != self.peer.id {
             return Err(StationFault::UnknownSender);
         }
-        let number = parts.number;
-        if number <= self.peer.highest {
+        if parts.number <= self.peer.highest {
             return Err(StationFault::NotAbove);
         }
-        let length = parts.open(&self.pair, out)?;
+        Ok(parts)
+    }
+
+    // Notes the number of a frame that was opened.
+    fn note(&mut self, number: u64)
+        ensures { λ _. ⌜ Notes (now (self .entry)) number (now (self .exit)) ⌝ }
+    {
         self.peer.highest = number;
+    }
+
+    // Opens over the parts of any frame that fits.
+    fn open_parts(&mut self, parts: FrameParts<'_>, out: &mut [u8]) -> Result<Opened, StationFault>
+        ensures { λ r. ⌜ ((f : List ℕ) → PartsOf f (parts .entry) → Fit (now (self .entry)) f → Step (mapsOf (C·Cipher .forward) (C·Cipher .backward) (M·Masking .onward) (M·Masking .inward)) (now (self .entry)) (Open f (now (out .entry)) (now (out .exit)) r) (now (self .exit))) ⌝ }
+    {
+        let number = parts.number;
+        let length = parts.open(&self.pair, out)?;
+        self.note(number);
         Ok(Opened { length, number })
+    }
+
+    // Opens a frame of the peer, with a number above the highest, into the output's start.
+    pub fn open(&mut self, frame: &[u8], out: &mut [u8]) -> Result<Opened, StationFault>
+        ensures { λ r. ⌜ Step (mapsOf (C·Cipher .forward) (C·Cipher .backward) (M·Masking .onward) (M·Masking .inward)) (now (self .entry)) (Open (now (frame .entry)) (now (out .entry)) (now (out .exit)) r) (now (self .exit)) ⌝ }
+    {
+        let parts = self.fit(frame)?;
+        self.open_parts(parts, out)
     }
 }
