@@ -1,7 +1,4 @@
 // How values look on the screen.
-use frame::FrameFault;
-use layer::Layer;
-use station::StationFault;
 use std::fmt;
 use task::Offset;
 
@@ -30,72 +27,5 @@ pub impl fmt::Display for Line as LineDisplay {
         let whole = size / 100;
         let rest = size % 100;
         write!(f, "probe {serial}: {sign}{whole}.{rest:02} K")
-    }
-}
-
-// A refusal, with its number, its place, the layer where it arose, and the reason.
-#[derive(Clone, Copy)]
-pub struct Refusal {
-    number: u8,
-    place: u8,
-    layer: Layer,
-}
-
-impl Refusal {
-    // The refusal that a station's fault is.
-    pub fn of_station(fault: StationFault) -> Refusal {
-        Refusal {
-            number: fault.number(),
-            place: fault.place(),
-            layer: fault.layer(),
-        }
-    }
-
-    // The refusal that a frame's fault is.
-    pub fn of_frame(fault: FrameFault) -> Refusal {
-        Refusal {
-            number: fault.number(),
-            place: fault.place(),
-            layer: fault.layer(),
-        }
-    }
-
-    // The reason in plain words.
-    fn reason(&self) -> &'static str {
-        match self.number {
-            1 => "the room for the message is not of its length",
-            2 => "no message seals to this frame, so it was changed or made up",
-            3 => "a station's own id is its peer's",
-            4 => "the first number is 0 or too large",
-            5 => "every number has been handed out",
-            6 => "the ticket is not the one that is out",
-            7 => "there is no such mode",
-            8 => "the clear part is above 1024 bytes",
-            9 => "the message is above 1024 bytes",
-            10 => "the room for the result is too small",
-            11 => "the frame is too short",
-            12 => "a field of the head is wrong",
-            13 => "the frame does not end where its tag does",
-            14 => "the sender is not the peer",
-            15 => "the number is not above the highest one opened",
-            _ => "for no known reason",
-        }
-    }
-}
-
-pub impl fmt::Display for Refusal as RefusalDisplay {
-    fn fmt<W: fmt::Write>(&self, f: &mut fmt::Formatter<W>) -> fmt::Result {
-        let number = self.number;
-        let place = self.place;
-        let layer = match self.layer {
-            Layer::Mode => "mode",
-            Layer::Frame => "frame",
-            Layer::Station => "station",
-        };
-        let reason = self.reason();
-        write!(
-            f,
-            "refused with {number} at place {place}, by the {layer}: {reason}"
-        )
     }
 }

@@ -4,13 +4,13 @@ use crate::shown::Hex;
 use crate::shown::HexDisplay;
 use crate::shown::Line;
 use crate::shown::LineDisplay;
-use crate::shown::Refusal;
-use crate::shown::RefusalDisplay;
 use cipher::Cipher;
+use frame::FrameFaultDisplay;
 use masking::Doubling;
 use masking::DoublingMasking;
 use mode::Pair;
 use station::Station;
+use station::StationFaultDisplay;
 use std::error::AnyError;
 use task::Offset;
 use task::OffsetPartialEq;
@@ -74,8 +74,7 @@ fn show_frame(rt: &LibcRuntime, bytes: &[u8]) -> Result<(), AnyError> {
             println!(rt, "   tag          {tag}")?;
         }
         Err(fault) => {
-            let refusal = Refusal::of_frame(fault);
-            println!(rt, "   {refusal}")?;
+            println!(rt, "   refused {fault}")?;
         }
     }
     Ok(())
@@ -100,8 +99,7 @@ fn send<C: Cipher + Drop>(
     let ticket = match hub.reserve() {
         Ok(ticket) => ticket,
         Err(fault) => {
-            let refusal = Refusal::of_station(fault);
-            println!(rt, "The hub cannot reserve a number: {refusal}")?;
+            println!(rt, "The hub cannot reserve a number: refused {fault}")?;
             return Ok(None);
         }
     };
@@ -118,8 +116,7 @@ fn send<C: Cipher + Drop>(
             Ok(Some(frame))
         }
         Err(fault) => {
-            let refusal = Refusal::of_station(fault);
-            println!(rt, "It cannot seal: {refusal}")?;
+            println!(rt, "It cannot seal: refused {fault}")?;
             Ok(None)
         }
     }
@@ -135,8 +132,7 @@ fn hear<C: Cipher + Drop>(
     let mut out = [0u8; MOST];
     match station.open(frame, &mut out) {
         Err(fault) => {
-            let refusal = Refusal::of_station(fault);
-            println!(rt, "   {refusal}")?;
+            println!(rt, "   refused {fault}")?;
         }
         Ok(opened) => {
             let number = opened.number;
@@ -204,8 +200,7 @@ fn give_up<C: Cipher + Drop>(
     let ticket = match hub.reserve() {
         Ok(ticket) => ticket,
         Err(fault) => {
-            let refusal = Refusal::of_station(fault);
-            println!(rt, "\nThe hub cannot reserve a number: {refusal}")?;
+            println!(rt, "\nThe hub cannot reserve a number: refused {fault}")?;
             return Ok(());
         }
     };
@@ -290,8 +285,7 @@ pub fn exchange<C: Cipher + Drop>(
     match (hub, valve) {
         (Ok(hub), Ok(valve)) => talk(rt, hub, valve, task),
         (Err(fault), _) | (_, Err(fault)) => {
-            let refusal = Refusal::of_station(fault);
-            println!(rt, "\nThere can be no such stations: {refusal}")?;
+            println!(rt, "\nThere can be no such stations: refused {fault}")?;
             Ok(())
         }
     }
