@@ -1,5 +1,8 @@
 // One pair of a cipher and a masking, and the cases that are run on it.
 ghost use mathlib.Core.Path.{_≡_};
+ghost use Prim.Native.Nat.{ℕ, _+_, _<_};
+ghost use lib.Dec.{T};
+ghost use lib.ListN.{length, getD};
 ghost use Rattle.block.specs.Cut.{blockCount};
 use crate::counting::Counting;
 use crate::counting::CountingCipher;
@@ -38,7 +41,9 @@ pub struct Calls {
 }
 
 impl Calls {
-    pub fn agrees(self) -> bool {
+    pub fn agrees(self) -> bool
+        ensures { λ r. ⌜ (T r → (self .seal ≡ self .promised) × (self .open ≡ self .promised)) ⌝ }
+    {
         self.seal == self.promised && self.open == self.promised
     }
 }
@@ -63,12 +68,15 @@ fn blocks(len: usize) -> usize
 }
 
 // The number of cipher calls that a seal or an opening is to make.
-fn promised(header: usize, message: usize) -> usize {
+fn promised(header: usize, message: usize) -> usize
+    ensures none { λ r. ⌜ (header ≡ 0 → r ≡ blockCount message + 3) ⌝ }
+    ensures some { λ r. ⌜ (0 < header → r ≡ blockCount message + blockCount header + 4) ⌝ }
+{
     let m = blocks(message);
     if header == 0 {
-        m.saturating_add(3)
+        m + 3
     } else {
-        m.saturating_add(blocks(header)).saturating_add(4)
+        m + blocks(header) + 4
     }
 }
 
@@ -87,7 +95,10 @@ fn last(bytes: &[u8]) -> &[u8] {
     &bytes[at..]
 }
 
-fn all_zero(bytes: &[u8]) -> bool {
+// Whether each byte is 0.
+fn all_zero(bytes: &[u8]) -> bool
+    ensures { λ r. ⌜ (T r → (k : ℕ) → k < length (now (bytes .entry)) → getD (now (bytes .entry)) k 0 ≡ 0) ⌝ }
+{
     for b in bytes {
         if *b != 0 {
             return false;
@@ -140,14 +151,9 @@ impl<'c, 'n, C: Cipher, M: Masking> Bench<'c, 'n, C, M> {
     }
 
     // Whether opening is refused with fault 2 and leaves zeros.
-    fn refuses(
-        &self,
-        mode: Mode,
-        header: &[u8],
-        sealed: &[u8],
-        tag: Block,
-        out: &mut [u8],
-    ) -> bool {
+    fn refuses(&self, mode: Mode, header: &[u8], sealed: &[u8], tag: Block, out: &mut [u8]) -> bool
+        ensures { λ r. ⌜ (T r → (k : ℕ) → k < length (now (out .exit)) → getD (now (out .exit)) k 0 ≡ 0) ⌝ }
+    {
         out.fill(0xff);
         match self.pair.open(mode, NONCE, header, sealed, tag, out) {
             Err(fault) => fault.number() == 2 && all_zero(out),

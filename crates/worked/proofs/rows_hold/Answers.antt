@@ -8,7 +8,6 @@ use Rattle.block.specs.BytesLaws.{bytes-append, bytes-replicate}
 use Rattle.block.specs.Cut.{fillWith, through, sumOf}
 use Rattle.block.specs.Double.{double, halve}
 use Rattle.masking.specs.Steps.{times}
-use Rattle.masking.specs.Tower.{towerStep, towerBack}
 use Rattle.mode.specs.declared.value.Mode.the-variants.{Forward, Dual}
 use Rattle.mode.specs.Sealing.{deltaZero, deltaOne, kappa, headerBlock, closing, someHeaderTag, headerTag, gamma, masked, padOf, body, sealedBytes, tagFrom, messageTag, tagOf, Seals}
 use Rattle.worked.specs.Rows.{plain, one, table, AllHold, TableHolds}
@@ -26,7 +25,7 @@ one-bytes : Bytes one
 one-bytes = bytes-append (0 ∷ []) _ (byte 0 (lit< tt)) (bytes-append _ (1 ∷ []) (bytes-replicate 14 0 (lit< tt)) (byte 1 (lit< tt)))
 
 all-hold : AllHold table
-unfolding double halve bytesOf fillWith xorBytes through sumOf times towerStep towerBack deltaZero deltaOne kappa headerBlock closing someHeaderTag headerTag gamma masked padOf body sealedBytes tagFrom messageTag tagOf
+unfolding double halve bytesOf fillWith xorBytes through sumOf times deltaZero deltaOne kappa headerBlock closing someHeaderTag headerTag gamma masked padOf body sealedBytes tagFrom messageTag tagOf
 all-hold = (
   both _ _ _ _ none refl refl refl,
   (
