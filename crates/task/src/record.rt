@@ -23,13 +23,25 @@ impl Offset {
     pub fn record(self) -> [u8; 6]
         ensures { λ r. ⌜ r ≡ recordOf self ⌝ }
     {
+        self.written()
+    }
+
+    // The offset that a record holds.
+    pub fn of_record(bytes: [u8; 6]) -> Offset
+        ensures { λ r. ⌜ recordOf r ≡ bytes ⌝ }
+    {
+        Offset::read_from(bytes)
+    }
+
+    fn written(self) -> [u8; 6]
+        ensures { λ r. ⌜ r ≡ recordOf self ⌝ }
+    {
         let [a, b, c, d] = self.serial.to_be_bytes();
         let [e, f] = self.hundredths.cast_unsigned().to_be_bytes();
         [a, b, c, d, e, f]
     }
 
-    // The offset that a record holds.
-    pub fn of_record(bytes: [u8; 6]) -> Offset
+    fn read_from(bytes: [u8; 6]) -> Offset
         ensures { λ r. ⌜ recordOf r ≡ bytes ⌝ }
     {
         let [a, b, c, d, e, f] = bytes;
@@ -44,6 +56,12 @@ impl Offset {
 pub fn pack(heap: Global, offsets: &[Offset]) -> Result<Vec<u8>, AllocError>
     ensures { λ r. ⌜ made r (λ v. vec-items v ≡ packed (now (offsets .entry))) ⌝ }
 {
+    joined(heap, offsets)
+}
+
+fn joined(heap: Global, offsets: &[Offset]) -> Result<Vec<u8>, AllocError>
+    ensures { λ r. ⌜ made r (λ v. vec-items v ≡ packed (now (offsets .entry))) ⌝ }
+{
     let mut bytes = Vec::new(heap);
     for offset in offsets {
         bytes.extend_from_slice(&offset.record())?;
@@ -53,6 +71,12 @@ pub fn pack(heap: Global, offsets: &[Offset]) -> Result<Vec<u8>, AllocError>
 
 // The offsets of the whole records in some bytes; a rest shorter than a record is left out.
 pub fn unpack(heap: Global, bytes: &[u8]) -> Result<Vec<Offset>, AllocError>
+    ensures { λ r. ⌜ made r (λ v. packed (vec-items v) ≡ take (6 * (length (now (bytes .entry)) / 6)) (now (bytes .entry))) ⌝ }
+{
+    parted(heap, bytes)
+}
+
+fn parted(heap: Global, bytes: &[u8]) -> Result<Vec<Offset>, AllocError>
     ensures { λ r. ⌜ made r (λ v. packed (vec-items v) ≡ take (6 * (length (now (bytes .entry)) / 6)) (now (bytes .entry))) ⌝ }
 {
     let mut offsets = Vec::new(heap);

@@ -4,7 +4,7 @@ use native.Mathlib.Omega.{arith}
 use Rattle.std.proofs.shelf.Lists.{take-all}
 use Rattle.task.specs.Records.{packed}
 use Rattle.task.proofs.Packing.{packed-next}
-use Rattle.task.proofs.record.pack.Needs as need
+use Rattle.task.proofs.record.joined.Needs as need
 
 pub loop-offset-holds : need.loop-offset-holds
 unfolding packed

@@ -5,7 +5,7 @@ use mir.Syntax.{w16}
 use mir.Val.{ofZ, SFits}
 use Rattle.std.proofs.shelf.Signed.{toZ-ofZ}
 use Rattle.task.proofs.Packing.{written}
-use Rattle.task.proofs.record.Offset.record.Needs as need
+use Rattle.task.proofs.record.Offset.written.Needs as need
 
 pub returns : need.returns
 returns c =

@@ -10,7 +10,7 @@ use mir.Val.{ofZ, toZ}
 use Rattle.std.proofs.shelf.Signed.{ofZ-toZ}
 use Rattle.block.specs.Bytes.{bytesOf}
 use Rattle.task.proofs.Packing.{read}
-use Rattle.task.proofs.record.Offset.of_record.Needs as need
+use Rattle.task.proofs.record.Offset.read_from.Needs as need
 
 pub returns : need.returns
 returns c =

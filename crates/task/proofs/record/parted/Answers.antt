@@ -2,7 +2,7 @@
 use mathlib.Core.Path.{refl}
 use Rattle.task.specs.Records.{packed}
 use Rattle.task.proofs.Packing.{unpacked-more}
-use Rattle.task.proofs.record.unpack.Needs as need
+use Rattle.task.proofs.record.parted.Needs as need
 
 pub loop-i-holds : need.loop-i-holds
 unfolding packed

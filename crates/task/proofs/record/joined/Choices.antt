@@ -3,7 +3,7 @@ use mathlib.Core.Path.{_≡_}
 use lib.ListN.{take}
 use Rattle.std.specs.Of.Vec.{vec-items}
 use Rattle.task.specs.Records.{packed}
-use Rattle.task.proofs.record.pack.Given as given
+use Rattle.task.proofs.record.joined.Given as given
 
 abbrev pub Inv-loop-offset : given.InvT-loop-offset
 Inv-loop-offset l = vec-items (l .bytes) ≡ packed (take (l .offset-index) (l .offsets))
