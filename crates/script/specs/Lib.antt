@@ -1,0 +1,4 @@
+pub mod Answers
+pub mod Reasons
+pub mod Tallies
+pub mod Words
