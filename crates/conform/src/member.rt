@@ -66,7 +66,10 @@ impl Member {
     // Hands out the ticket of a label, whose label is then free again.
     pub fn take(&mut self, label: &str) -> Option<Ticket> {
         let i = self.find(label)?;
-        let Held { label: _label, ticket } = self.held.swap_remove(i);
+        let Held {
+            label: _label,
+            ticket,
+        } = self.held.swap_remove(i);
         Some(ticket)
     }
 
@@ -83,7 +86,10 @@ impl Member {
         match self.held.push(Held { label, ticket }) {
             Ok(()) => Ok(Ok(shown)),
             Err(refused) => {
-                let Held { label: _label, ticket } = refused.value;
+                let Held {
+                    label: _label,
+                    ticket,
+                } = refused.value;
                 let _ = self.station.give_up(ticket);
                 Err(AllocError)
             }
@@ -98,7 +104,10 @@ impl Member {
             mut held,
         } = self;
         while let Some(last) = held.pop() {
-            let Held { label: _label, ticket } = last;
+            let Held {
+                label: _label,
+                ticket,
+            } = last;
             let _ = station.give_up(ticket);
         }
         held.destroy_empty();

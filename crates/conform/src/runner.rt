@@ -12,8 +12,11 @@ use script::Call;
 use script::CipherSetting;
 use script::Line;
 use script::MaskingSetting;
+use script::OrDash;
 use script::PlainSetting;
 use script::Reason;
+use script::StateLine;
+use script::StateLineDisplay;
 use script::Tally;
 use script::Unread;
 use script::UnreadFromAlloc;
@@ -44,7 +47,11 @@ fn chosen(setting: CipherSetting) -> AnyCipher {
         PlainSetting::Aes(key) => AnyCipher::aes(key),
         PlainSetting::Speck(key) => AnyCipher::speck(key),
     };
-    if setting.inverse { cipher.inverse() } else { cipher }
+    if setting.inverse {
+        cipher.inverse()
+    } else {
+        cipher
+    }
 }
 
 // The reply to an accepted call.
@@ -157,7 +164,15 @@ impl Runner {
         None
     }
 
-    fn station(&mut self, heap: Global, name: &str, own: u8, peer: u8, start: u64, floor: u64) -> Result<Reply, Unread> {
+    fn station(
+        &mut self,
+        heap: Global,
+        name: &str,
+        own: u8,
+        peer: u8,
+        start: u64,
+        floor: u64,
+    ) -> Result<Reply, Unread> {
         if self.find(name).is_some() {
             return Err(Unread::Because(Reason::UsedName));
         }
@@ -188,7 +203,13 @@ impl Runner {
         }
         let label = String::from_str(heap, label)?;
         match self.members[i].reserve(label)? {
-            Ok(shown) => accepted(heap, Answer::Ticket { id: shown.id, number: shown.number }),
+            Ok(shown) => accepted(
+                heap,
+                Answer::Ticket {
+                    id: shown.id,
+                    number: shown.number,
+                },
+            ),
             Err(fault) => refused(heap, fault),
         }
     }
@@ -206,7 +227,16 @@ impl Runner {
         }
     }
 
-    fn seal(&mut self, heap: Global, name: &str, label: &str, mode: u8, clear: &[u8], message: &[u8], space: usize) -> Result<Reply, Unread> {
+    fn seal(
+        &mut self,
+        heap: Global,
+        name: &str,
+        label: &str,
+        mode: u8,
+        clear: &[u8],
+        message: &[u8],
+        space: usize,
+    ) -> Result<Reply, Unread> {
         let Some(i) = self.find(name) else {
             return Err(Unread::Because(Reason::UnknownStation));
         };
@@ -224,7 +254,13 @@ impl Runner {
         with_output(heap, reply, out.as_slice())
     }
 
-    fn open(&mut self, heap: Global, name: &str, frame: &[u8], space: usize) -> Result<Reply, Unread> {
+    fn open(
+        &mut self,
+        heap: Global,
+        name: &str,
+        frame: &[u8],
+        space: usize,
+    ) -> Result<Reply, Unread> {
         let Some(i) = self.find(name) else {
             return Err(Unread::Because(Reason::UnknownStation));
         };
@@ -241,26 +277,48 @@ impl Runner {
             return Err(Unread::Because(Reason::UnknownStation));
         };
         let station = &self.members[i].station;
-        accepted(
-            heap,
-            Answer::State {
-                next: station.next(),
-                out: station.out(),
-                highest: station.highest(),
-                reserved: station.reserved(),
-                sealed: station.sealed(),
-                written_off: station.written_off(),
-            },
-        )
+        let line = StateLine {
+            next: station.next(),
+            out: OrDash(station.out()),
+            highest: station.highest(),
+            reserved: station.reserved(),
+            sealed: station.sealed(),
+            written_off: station.written_off(),
+        };
+        Ok(Reply {
+            accepted: true,
+            text: format!(heap, "{line}\n")?,
+        })
     }
 
     // Makes one call.
     fn call(&mut self, heap: Global, call: &Call<'_>) -> Result<Reply, Unread> {
         match call {
-            Call::Station { name, own, peer, start, floor } => self.station(heap, name, *own, *peer, *start, *floor),
+            Call::Station {
+                name,
+                own,
+                peer,
+                start,
+                floor,
+            } => self.station(heap, name, *own, *peer, *start, *floor),
             Call::Reserve { name, ticket } => self.reserve(heap, name, ticket),
             Call::GiveUp { name, ticket } => self.give_up(heap, name, ticket),
-            Call::Seal { name, ticket, mode, clear, message, space } => self.seal(heap, name, ticket, *mode, clear.as_slice(), message.as_slice(), *space),
+            Call::Seal {
+                name,
+                ticket,
+                mode,
+                clear,
+                message,
+                space,
+            } => self.seal(
+                heap,
+                name,
+                ticket,
+                *mode,
+                clear.as_slice(),
+                message.as_slice(),
+                *space,
+            ),
             Call::Open { name, frame, space } => self.open(heap, name, frame.as_slice(), *space),
             Call::Parts { frame } => parts(heap, frame.as_slice()),
             Call::State { name } => self.state(heap, name),

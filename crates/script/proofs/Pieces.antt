@@ -1,12 +1,12 @@
 -- The first piece of a text is its first word, unless it is empty.
 use mathlib.Core.Path.{_≡_, refl, sym, ap, _∙_}
-use mathlib.Core.Bool.{Bool, false, cond}
+use mathlib.Core.Bool.{Bool, true, false, cond}
 use mathlib.Core.List.{List, [], _∷_, _++_, append-assoc, append-nil}
 use Prim.Native.Nat.{ℕ, zero, suc, _+_, _<_, _≤_}
 use native.Mathlib.Omega.{arith}
 use lib.Dec.{eqb}
 use lib.ListN.{length, getD, length-append}
-use Rattle.std.proofs.shelf.Tests.{ne-eqb}
+use Rattle.std.proofs.shelf.Tests.{ne-eqb, eqb-false, eqb-true}
 use Rattle.script.specs.Words.{keep, wordsFrom, wordsOf}
 
 -- no space in it
@@ -60,7 +60,8 @@ piece-some text p r e h l = words-piece text p r e h ∙ keep-some p (wordsOf r)
 pub piece-none : (text p r : List ℕ) → text ≡ p ++ (32 ∷ r) → Solid p → length p ≡ 0 → wordsOf text ≡ wordsOf r
 piece-none text p r e h l = words-piece text p r e h ∙ keep-none p (wordsOf r) l
 
-pub last-some : (text : List ℕ) → Solid text → 0 < length text → wordsOf text ≡ text ∷ []
+pub last-some : (text : List ℕ) → Solid text → 0 < length text → wordsOf text ≡ text ∷ wordsOf []
+unfolding wordsFrom
 last-some text h l = words-last text h ∙ keep-some text [] l
 
 pub last-none : (text : List ℕ) → length text ≡ 0 → wordsOf text ≡ []
@@ -71,3 +72,10 @@ last-none (c ∷ cs) l = absurd (let f : ⊥ = omega arith in f)
 -- what follows the space is shorter
 pub shorter : (text p r : List ℕ) → text ≡ p ++ (32 ∷ r) → length r < length text
 shorter text p r e = let a : length text ≡ length (p ++ (32 ∷ r)) = ap length e in let b = length-append p (32 ∷ r) in omega arith
+
+-- what the test for an empty text says
+pub is-long : (b : Bool) (xs : List ℕ) → b ≡ eqb (length xs) 0 → b ≡ false → 0 < length xs
+is-long b xs e f = let ne : length xs ≡ 0 → ⊥ = eqb-false (length xs) 0 (sym e ∙ f) in omega (arith, ne)
+
+pub is-none : (b : Bool) (xs : List ℕ) → b ≡ eqb (length xs) 0 → b ≡ true → length xs ≡ 0
+is-none b xs e t = eqb-true (length xs) 0 (sym e ∙ t)

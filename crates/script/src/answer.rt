@@ -1,11 +1,54 @@
 // How the answer to a call is printed.
 ghost use Rattle.std.specs.declared.option.Option.the-variants.{Some};
-ghost use Rattle.script.specs.Answers.{answerLine, orDash};
+ghost use Rattle.script.specs.Answers.{answerLine, orDash, stateLine};
 use layer::Layer;
 use layer::LayerDisplay;
 use std::fmt;
 
-// What a call answers. Parts have the place and the hexadecimal text of each.
+// A number that may be missing, where - is printed.
+#[derive(Clone, Copy)]
+pub struct OrDash(pub Option<u64>);
+
+pub impl fmt::Display for OrDash as OrDashDisplay {
+    ghost shown = { λ o. Some (orDash (o .0)) };
+
+    fn fmt<W: fmt::Write>(&self, f: &mut fmt::Formatter<W>) -> fmt::Result {
+        match self.0 {
+            Some(number) => write!(f, "{number}"),
+            None => f.write_str("-"),
+        }
+    }
+}
+
+// What a call for a station's state answers.
+#[derive(Clone, Copy)]
+pub struct StateLine {
+    pub next: u64,
+    pub out: OrDash,
+    pub highest: u64,
+    pub reserved: u64,
+    pub sealed: u64,
+    pub written_off: u64,
+}
+
+pub impl fmt::Display for StateLine as StateLineDisplay {
+    ghost shown = { λ s. Some (stateLine s) };
+
+    fn fmt<W: fmt::Write>(&self, f: &mut fmt::Formatter<W>) -> fmt::Result {
+        let next = self.next;
+        let out = self.out;
+        let highest = self.highest;
+        let reserved = self.reserved;
+        let sealed = self.sealed;
+        let written_off = self.written_off;
+        write!(
+            f,
+            "next {next} out {out} highest {highest} reserved {reserved} sealed {sealed} written-off {written_off}"
+        )
+    }
+}
+
+// What any other call answers. Parts have the place and the hexadecimal text of each.
 #[derive(Clone, Copy)]
 pub enum Answer<'a> {
     Made,
@@ -29,14 +72,6 @@ pub enum Answer<'a> {
         tag_at: usize,
         tag: &'a str,
     },
-    State {
-        next: u64,
-        out: Option<u64>,
-        highest: u64,
-        reserved: u64,
-        sealed: u64,
-        written_off: u64,
-    },
     Refused {
         number: u8,
         place: u8,
@@ -49,21 +84,6 @@ pub enum Answer<'a> {
         line: u64,
         reason: &'a str,
     },
-}
-
-// A number that may be missing.
-#[derive(Clone, Copy)]
-struct OrDash(Option<u64>);
-
-impl fmt::Display for OrDash as OrDashDisplay {
-    ghost shown = { λ o. Some (orDash (o .0)) };
-
-    fn fmt<W: fmt::Write>(&self, f: &mut fmt::Formatter<W>) -> fmt::Result {
-        match self.0 {
-            Some(number) => write!(f, "{number}"),
-            None => f.write_str("-"),
-        }
-    }
 }
 
 pub impl<'a> fmt::Display for Answer<'a> as AnswerDisplay {
@@ -83,21 +103,10 @@ pub impl<'a> fmt::Display for Answer<'a> as AnswerDisplay {
                 sealed,
                 tag_at,
                 tag,
-            } => write!(f, "clear {clear_at} {clear} sealed {sealed_at} {sealed} tag {tag_at} {tag}"),
-            Answer::State {
-                next,
-                out,
-                highest,
-                reserved,
-                sealed,
-                written_off,
-            } => {
-                let out = OrDash(*out);
-                write!(
-                    f,
-                    "next {next} out {out} highest {highest} reserved {reserved} sealed {sealed} written-off {written_off}"
-                )
-            }
+            } => write!(
+                f,
+                "clear {clear_at} {clear} sealed {sealed_at} {sealed} tag {tag_at} {tag}"
+            ),
             Answer::Refused {
                 number,
                 place,

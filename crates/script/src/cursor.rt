@@ -2,6 +2,7 @@
 ghost use mathlib.Core.List.{[], _∷_};
 ghost use mathlib.Core.Path.{_≡_};
 ghost use Rattle.std.specs.Options.{Cases as BySome};
+ghost use Rattle.std.specs.Vec.{made};
 ghost use Rattle.script.specs.Words.{wordsOf};
 use crate::reason::Reason;
 use crate::reason::Unread;
@@ -39,7 +40,9 @@ impl<'a> Cursor<'a> {
     }
 
     // The next word, which has to be there.
-    pub fn word(&mut self) -> Result<&'a str, Unread> {
+    pub fn word(&mut self) -> Result<&'a str, Unread>
+        ensures { λ r. ⌜ made r (λ word. wordsOf (now (self .entry) .rest .now) ≡ word .now ∷ wordsOf (now (self .exit) .rest .now)) ⌝ }
+    {
         match self.next_word() {
             Some(word) => Ok(word),
             None => Err(Unread::Because(Reason::WordMissing)),
@@ -83,7 +86,9 @@ impl<'a> Cursor<'a> {
     }
 
     // No word may follow.
-    pub fn end(&mut self) -> Result<(), Unread> {
+    pub fn end(&mut self) -> Result<(), Unread>
+        ensures { λ r. ⌜ made r (λ _. wordsOf (now (self .entry) .rest .now) ≡ []) ⌝ }
+    {
         match self.next_word() {
             Some(_) => Err(Unread::Because(Reason::WordTooMany)),
             None => Ok(()),

@@ -10,6 +10,10 @@ mod writing;
 
 pub use answer::Answer;
 pub use answer::AnswerDisplay;
+pub use answer::OrDash;
+pub use answer::OrDashDisplay;
+pub use answer::StateLine;
+pub use answer::StateLineDisplay;
 pub use call::Call;
 pub use call::CipherSetting;
 pub use call::Line;

@@ -28,14 +28,17 @@ impl Reason {
     {
         match self {
             Reason::NotText => "the line is not text",
-            Reason::UnknownWord => "a line begins with cipher, masking, station, reserve, giveup, seal, open, parts or state",
+            Reason::UnknownWord =>
+                "a line begins with cipher, masking, station, reserve, giveup, seal, open, parts or state",
             Reason::WordMissing => "a word is missing",
             Reason::WordTooMany => "a word too many",
-            Reason::NotHex => "a string is written as pairs of hexadecimal digits, or - where it is empty",
+            Reason::NotHex =>
+                "a string is written as pairs of hexadecimal digits, or - where it is empty",
             Reason::TooLong => "a string has at most 65536 bytes",
             Reason::NotAKey => "a key has 16 bytes",
             Reason::NotANumber => "a number is out of its bounds, or not written in digits",
-            Reason::NotACipher => "a cipher is identity, aes or speck, with inverse before it or not",
+            Reason::NotACipher =>
+                "a cipher is identity, aes or speck, with inverse before it or not",
             Reason::NotAMasking => "a masking is doubling or tower",
             Reason::UnknownStation => "no station has this name",
             Reason::UsedName => "a station has this name already",

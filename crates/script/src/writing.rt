@@ -47,7 +47,10 @@ pub fn write(heap: Global, call: &Call<'_>) -> Result<String, AllocError> {
         } => {
             let clear = hex_text(heap, clear.as_slice())?;
             let message = hex_text(heap, message.as_slice())?;
-            format!(heap, "seal {name} {ticket} {mode} {clear} {message} {space}")
+            format!(
+                heap,
+                "seal {name} {ticket} {mode} {clear} {message} {space}"
+            )
         }
         Call::Open { name, frame, space } => {
             let frame = hex_text(heap, frame.as_slice())?;
