@@ -12,7 +12,13 @@ use script::Call;
 use script::CipherSetting;
 use script::Line;
 use script::MaskingSetting;
+use script::NotReadLine;
+use script::NotReadLineDisplay;
 use script::OrDash;
+use script::OutLine;
+use script::OutLineDisplay;
+use script::PartsLine;
+use script::PartsLineDisplay;
 use script::PlainSetting;
 use script::Reason;
 use script::StateLine;
@@ -27,7 +33,6 @@ use station::StationFaultFromFrame;
 use station::Ticket;
 use std::alloc::AllocError;
 use std::alloc::Global;
-use std::str;
 use suite::AnyCipher;
 use suite::AnyCipherCipher;
 use suite::AnyMasking;
@@ -55,7 +60,7 @@ fn chosen(setting: CipherSetting) -> AnyCipher {
 }
 
 // The reply to an accepted call.
-fn accepted(heap: Global, answer: Answer<'_>) -> Result<Reply, Unread> {
+fn accepted(heap: Global, answer: Answer) -> Result<Reply, Unread> {
     Ok(Reply {
         accepted: true,
         text: format!(heap, "{answer}\n")?,
@@ -78,9 +83,7 @@ fn refused(heap: Global, fault: StationFault) -> Result<Reply, Unread> {
 // The same with the output buffer in a line of its own.
 fn with_output(heap: Global, mut reply: Reply, out: &[u8]) -> Result<Reply, Unread> {
     let bytes = script::hex_text(heap, out)?;
-    let line = Answer::Out {
-        bytes: bytes.as_str(),
-    };
+    let line = OutLine(bytes.as_str());
     let text = format!(heap, "{line}\n")?;
     reply.text.push_str(text.as_str())?;
     Ok(reply)
@@ -95,17 +98,18 @@ fn parts(heap: Global, frame: &[u8]) -> Result<Reply, Unread> {
     let clear = script::hex_text(heap, parts.clear.bytes)?;
     let sealed = script::hex_text(heap, parts.sealed.bytes)?;
     let tag = script::hex_text(heap, parts.tag.bytes)?;
-    accepted(
-        heap,
-        Answer::Parts {
-            clear_at: parts.clear.at,
-            clear: clear.as_str(),
-            sealed_at: parts.sealed.at,
-            sealed: sealed.as_str(),
-            tag_at: parts.tag.at,
-            tag: tag.as_str(),
-        },
-    )
+    let line = PartsLine {
+        clear_at: parts.clear.at,
+        clear: clear.as_str(),
+        sealed_at: parts.sealed.at,
+        sealed: sealed.as_str(),
+        tag_at: parts.tag.at,
+        tag: tag.as_str(),
+    };
+    Ok(Reply {
+        accepted: true,
+        text: format!(heap, "{line}\n")?,
+    })
 }
 
 // Stations by name, the cipher and masking of the stations to come, and the counts.
@@ -346,7 +350,7 @@ impl Runner {
 
     // Reads a line and does what it says.
     fn try_line(&mut self, heap: Global, bytes: &[u8]) -> Result<String, Unread> {
-        let Ok(text) = str::from_utf8(bytes) else {
+        let Ok(text) = std::str::from_utf8(bytes) else {
             return Err(Unread::Because(Reason::NotText));
         };
         let line = script::read(heap, text)?;
@@ -359,7 +363,7 @@ impl Runner {
             Ok(text) => Ok(text),
             Err(Unread::Because(reason)) => {
                 self.tally.pass();
-                let answer = Answer::NotRead {
+                let answer = NotReadLine {
                     line,
                     reason: reason.text(),
                 };

@@ -7,8 +7,19 @@ use Rattle.std.specs.declared.option.Option.the-variants.{None, Some}
 use Rattle.std.specs.Written.{decimal}
 use Rattle.layer.specs.Layers.{nameOf}
 use Rattle.script.specs.declared.answer.StateLine.{StateLine}
+use Rattle.script.specs.declared.answer.PartsLine.{PartsLine}
+use Rattle.script.specs.declared.answer.OutLine.{OutLine}
+use Rattle.script.specs.declared.answer.NotReadLine.{NotReadLine}
 use Rattle.script.specs.declared.answer.Answer.{Answer}
-use Rattle.script.specs.declared.answer.Answer.the-variants.{Made, Ticket, GivenUp, Sealed, Opened, Parts, Refused, Out, NotRead}
+use Rattle.script.specs.declared.answer.Answer.the-variants.{Made, Ticket, GivenUp, Sealed, Opened, Refused}
+
+abbrev pub answerLine : Answer → List ℕ
+answerLine Made = codes "made"
+answerLine (Ticket id number) = codes "ticket " ++ (decimal id ++ (codes " " ++ decimal number))
+answerLine GivenUp = codes "given up"
+answerLine (Sealed len) = codes "sealed " ++ decimal len
+answerLine (Opened len number) = codes "opened " ++ (decimal len ++ (codes " number " ++ decimal number))
+answerLine (Refused number place layer) = codes "refused " ++ (decimal number ++ (codes " at " ++ (decimal place ++ (codes " in " ++ nameOf layer))))
 
 -- a number that may be missing
 abbrev pub orDash : Option ℕ → List ℕ
@@ -19,14 +30,12 @@ abbrev pub stateLine : StateLine → List ℕ
 stateLine s =
     codes "next " ++ (decimal (s .next) ++ (codes " out " ++ (orDash (s .out .0) ++ (codes " highest " ++ (decimal (s .highest) ++ (codes " reserved " ++ (decimal (s .reserved) ++ (codes " sealed " ++ (decimal (s .sealed) ++ (codes " written-off " ++ decimal (s .«written_off»)))))))))))
 
-abbrev pub answerLine : Answer → List ℕ
-answerLine Made = codes "made"
-answerLine (Ticket id number) = codes "ticket " ++ (decimal id ++ (codes " " ++ decimal number))
-answerLine GivenUp = codes "given up"
-answerLine (Sealed len) = codes "sealed " ++ decimal len
-answerLine (Opened len number) = codes "opened " ++ (decimal len ++ (codes " number " ++ decimal number))
-answerLine (Parts clearAt clear sealedAt sealed tagAt tag) =
-    codes "clear " ++ (decimal clearAt ++ (codes " " ++ (clear .now ++ (codes " sealed " ++ (decimal sealedAt ++ (codes " " ++ (sealed .now ++ (codes " tag " ++ (decimal tagAt ++ (codes " " ++ tag .now))))))))))
-answerLine (Refused number place layer) = codes "refused " ++ (decimal number ++ (codes " at " ++ (decimal place ++ (codes " in " ++ nameOf layer))))
-answerLine (Out bytes) = codes "out " ++ bytes .now
-answerLine (NotRead line reason) = codes "line " ++ (decimal line ++ (codes ": " ++ reason .now))
+abbrev pub partsLine : PartsLine → List ℕ
+partsLine p =
+    codes "clear " ++ (decimal (p .«clear_at») ++ (codes " " ++ (p .clear .now ++ (codes " sealed " ++ (decimal (p .«sealed_at») ++ (codes " " ++ (p .sealed .now ++ (codes " tag " ++ (decimal (p .«tag_at») ++ (codes " " ++ p .tag .now))))))))))
+
+abbrev pub outLine : OutLine → List ℕ
+outLine o = codes "out " ++ o .0 .now
+
+abbrev pub notReadLine : NotReadLine → List ℕ
+notReadLine n = codes "line " ++ (decimal (n .line) ++ (codes ": " ++ n .reason .now))

@@ -1,9 +1,39 @@
 // How the answer to a call is printed.
 ghost use Rattle.std.specs.declared.option.Option.the-variants.{Some};
-ghost use Rattle.script.specs.Answers.{answerLine, orDash, stateLine};
+ghost use Rattle.script.specs.Answers.{answerLine, orDash, notReadLine, outLine, partsLine, stateLine};
 use layer::Layer;
 use layer::LayerDisplay;
 use std::fmt;
+
+// What a call answers; the state of a station and the parts of a frame have lines of their own.
+#[derive(Clone, Copy)]
+pub enum Answer {
+    Made,
+    Ticket { id: u8, number: u64 },
+    GivenUp,
+    Sealed { length: usize },
+    Opened { length: usize, number: u64 },
+    Refused { number: u8, place: u8, layer: Layer },
+}
+
+pub impl fmt::Display for Answer as AnswerDisplay {
+    ghost shown = { λ a. Some (answerLine a) };
+
+    fn fmt<W: fmt::Write>(&self, f: &mut fmt::Formatter<W>) -> fmt::Result {
+        match self {
+            Answer::Made => f.write_str("made"),
+            Answer::Ticket { id, number } => write!(f, "ticket {id} {number}"),
+            Answer::GivenUp => f.write_str("given up"),
+            Answer::Sealed { length } => write!(f, "sealed {length}"),
+            Answer::Opened { length, number } => write!(f, "opened {length} number {number}"),
+            Answer::Refused {
+                number,
+                place,
+                layer,
+            } => write!(f, "refused {number} at {place} in {layer}"),
+        }
+    }
+}
 
 // A number that may be missing, where - is printed.
 #[derive(Clone, Copy)]
@@ -48,72 +78,60 @@ pub impl fmt::Display for StateLine as StateLineDisplay {
     }
 }
 
-// What any other call answers. Parts have the place and the hexadecimal text of each.
+// What a call for the parts of a frame answers: the place and the hexadecimal text of each.
 #[derive(Clone, Copy)]
-pub enum Answer<'a> {
-    Made,
-    Ticket {
-        id: u8,
-        number: u64,
-    },
-    GivenUp,
-    Sealed {
-        length: usize,
-    },
-    Opened {
-        length: usize,
-        number: u64,
-    },
-    Parts {
-        clear_at: usize,
-        clear: &'a str,
-        sealed_at: usize,
-        sealed: &'a str,
-        tag_at: usize,
-        tag: &'a str,
-    },
-    Refused {
-        number: u8,
-        place: u8,
-        layer: Layer,
-    },
-    Out {
-        bytes: &'a str,
-    },
-    NotRead {
-        line: u64,
-        reason: &'a str,
-    },
+pub struct PartsLine<'a> {
+    pub clear_at: usize,
+    pub clear: &'a str,
+    pub sealed_at: usize,
+    pub sealed: &'a str,
+    pub tag_at: usize,
+    pub tag: &'a str,
 }
 
-pub impl<'a> fmt::Display for Answer<'a> as AnswerDisplay {
-    ghost shown = { λ a. Some (answerLine a) };
+pub impl<'a> fmt::Display for PartsLine<'a> as PartsLineDisplay {
+    ghost shown = { λ p. Some (partsLine p) };
 
     fn fmt<W: fmt::Write>(&self, f: &mut fmt::Formatter<W>) -> fmt::Result {
-        match self {
-            Answer::Made => f.write_str("made"),
-            Answer::Ticket { id, number } => write!(f, "ticket {id} {number}"),
-            Answer::GivenUp => f.write_str("given up"),
-            Answer::Sealed { length } => write!(f, "sealed {length}"),
-            Answer::Opened { length, number } => write!(f, "opened {length} number {number}"),
-            Answer::Parts {
-                clear_at,
-                clear,
-                sealed_at,
-                sealed,
-                tag_at,
-                tag,
-            } => write!(
-                f,
-                "clear {clear_at} {clear} sealed {sealed_at} {sealed} tag {tag_at} {tag}"
-            ),
-            Answer::Refused {
-                number,
-                place,
-                layer,
-            } => write!(f, "refused {number} at {place} in {layer}"),
-            Answer::Out { bytes } => write!(f, "out {bytes}"),
-            Answer::NotRead { line, reason } => write!(f, "line {line}: {reason}"),
-        }
+        let clear_at = self.clear_at;
+        let clear = self.clear;
+        let sealed_at = self.sealed_at;
+        let sealed = self.sealed;
+        let tag_at = self.tag_at;
+        let tag = self.tag;
+        write!(
+            f,
+            "clear {clear_at} {clear} sealed {sealed_at} {sealed} tag {tag_at} {tag}"
+        )
+    }
+}
+
+// The output buffer, as hexadecimal text.
+#[derive(Clone, Copy)]
+pub struct OutLine<'a>(pub &'a str);
+
+pub impl<'a> fmt::Display for OutLine<'a> as OutLineDisplay {
+    ghost shown = { λ o. Some (outLine o) };
+
+    fn fmt<W: fmt::Write>(&self, f: &mut fmt::Formatter<W>) -> fmt::Result {
+        let bytes = self.0;
+        write!(f, "out {bytes}")
+    }
+}
+
+// The number of a line that is not read, and why.
+#[derive(Clone, Copy)]
+pub struct NotReadLine<'a> {
+    pub line: u64,
+    pub reason: &'a str,
+}
+
+pub impl<'a> fmt::Display for NotReadLine<'a> as NotReadLineDisplay {
+    ghost shown = { λ n. Some (notReadLine n) };
+
+    fn fmt<W: fmt::Write>(&self, f: &mut fmt::Formatter<W>) -> fmt::Result {
+        let line = self.line;
+        let reason = self.reason;
+        write!(f, "line {line}: {reason}")
     }
 }
