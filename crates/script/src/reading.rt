@@ -1,4 +1,9 @@
 // Reading a line.
+ghost use mathlib.Core.Path.{_≡_};
+ghost use lib.Chars.{codes};
+ghost use Rattle.std.specs.Vec.{made};
+ghost use Rattle.script.specs.Calls.{Takes, Reads};
+ghost use Rattle.script.specs.Words.{wordsOf};
 use crate::call::Call;
 use crate::call::CipherSetting;
 use crate::call::Line;
@@ -35,7 +40,9 @@ fn masking(words: &mut Cursor<'_>) -> Result<MaskingSetting, Unread> {
     Ok(masking)
 }
 
-fn station<'a>(words: &mut Cursor<'a>) -> Result<Call<'a>, Unread> {
+fn station<'a>(words: &mut Cursor<'a>) -> Result<Call<'a>, Unread>
+    ensures { λ r. ⌜ made r (Takes (codes "station") (wordsOf (now (words .entry) .rest .now))) ⌝ }
+{
     let name = words.word()?;
     let own = words.byte()?;
     let peer = words.byte()?;
@@ -51,21 +58,27 @@ fn station<'a>(words: &mut Cursor<'a>) -> Result<Call<'a>, Unread> {
     })
 }
 
-fn reserve<'a>(words: &mut Cursor<'a>) -> Result<Call<'a>, Unread> {
+fn reserve<'a>(words: &mut Cursor<'a>) -> Result<Call<'a>, Unread>
+    ensures { λ r. ⌜ made r (Takes (codes "reserve") (wordsOf (now (words .entry) .rest .now))) ⌝ }
+{
     let name = words.word()?;
     let ticket = words.word()?;
     words.end()?;
     Ok(Call::Reserve { name, ticket })
 }
 
-fn give_up<'a>(words: &mut Cursor<'a>) -> Result<Call<'a>, Unread> {
+fn give_up<'a>(words: &mut Cursor<'a>) -> Result<Call<'a>, Unread>
+    ensures { λ r. ⌜ made r (Takes (codes "giveup") (wordsOf (now (words .entry) .rest .now))) ⌝ }
+{
     let name = words.word()?;
     let ticket = words.word()?;
     words.end()?;
     Ok(Call::GiveUp { name, ticket })
 }
 
-fn seal<'a>(heap: Global, words: &mut Cursor<'a>) -> Result<Call<'a>, Unread> {
+fn seal<'a>(heap: Global, words: &mut Cursor<'a>) -> Result<Call<'a>, Unread>
+    ensures { λ r. ⌜ made r (Takes (codes "seal") (wordsOf (now (words .entry) .rest .now))) ⌝ }
+{
     let name = words.word()?;
     let ticket = words.word()?;
     let mode = words.byte()?;
@@ -83,7 +96,9 @@ fn seal<'a>(heap: Global, words: &mut Cursor<'a>) -> Result<Call<'a>, Unread> {
     })
 }
 
-fn open<'a>(heap: Global, words: &mut Cursor<'a>) -> Result<Call<'a>, Unread> {
+fn open<'a>(heap: Global, words: &mut Cursor<'a>) -> Result<Call<'a>, Unread>
+    ensures { λ r. ⌜ made r (Takes (codes "open") (wordsOf (now (words .entry) .rest .now))) ⌝ }
+{
     let name = words.word()?;
     let frame = words.bytes(heap)?;
     let space = words.space()?;
@@ -91,20 +106,42 @@ fn open<'a>(heap: Global, words: &mut Cursor<'a>) -> Result<Call<'a>, Unread> {
     Ok(Call::Open { name, frame, space })
 }
 
-fn parts<'a>(heap: Global, words: &mut Cursor<'a>) -> Result<Call<'a>, Unread> {
+fn parts<'a>(heap: Global, words: &mut Cursor<'a>) -> Result<Call<'a>, Unread>
+    ensures { λ r. ⌜ made r (Takes (codes "parts") (wordsOf (now (words .entry) .rest .now))) ⌝ }
+{
     let frame = words.bytes(heap)?;
     words.end()?;
     Ok(Call::Parts { frame })
 }
 
-fn state<'a>(words: &mut Cursor<'a>) -> Result<Call<'a>, Unread> {
+fn state<'a>(words: &mut Cursor<'a>) -> Result<Call<'a>, Unread>
+    ensures { λ r. ⌜ made r (Takes (codes "state") (wordsOf (now (words .entry) .rest .now))) ⌝ }
+{
     let name = words.word()?;
     words.end()?;
     Ok(Call::State { name })
 }
 
+// The call that the words after its kind say.
+fn call<'a>(heap: Global, kind: &str, words: &mut Cursor<'a>) -> Result<Call<'a>, Unread>
+    ensures { λ r. ⌜ made r (Takes (now (kind .entry)) (wordsOf (now (words .entry) .rest .now))) ⌝ }
+{
+    match kind {
+        "station" => station(words),
+        "reserve" => reserve(words),
+        "giveup" => give_up(words),
+        "seal" => seal(heap, words),
+        "open" => open(heap, words),
+        "parts" => parts(heap, words),
+        "state" => state(words),
+        _ => Err(Unread::Because(Reason::UnknownWord)),
+    }
+}
+
 // What a line says: nothing, a setting or exactly one call. A line that begins with # says nothing, nor does one without a word.
-pub fn read(heap: Global, line: &str) -> Result<Line<'_>, Unread> {
+pub fn read(heap: Global, line: &str) -> Result<Line<'_>, Unread>
+    ensures { λ r. ⌜ made r (Reads (now (line .entry))) ⌝ }
+{
     if line.starts_with('#') {
         return Ok(Line::Nothing);
     }
@@ -112,17 +149,11 @@ pub fn read(heap: Global, line: &str) -> Result<Line<'_>, Unread> {
     let Some(kind) = words.next_word() else {
         return Ok(Line::Nothing);
     };
-    let call = match kind {
+    match kind {
         "cipher" => return Ok(Line::Cipher(cipher(heap, &mut words)?)),
         "masking" => return Ok(Line::Masking(masking(&mut words)?)),
-        "station" => station(&mut words)?,
-        "reserve" => reserve(&mut words)?,
-        "giveup" => give_up(&mut words)?,
-        "seal" => seal(heap, &mut words)?,
-        "open" => open(heap, &mut words)?,
-        "parts" => parts(heap, &mut words)?,
-        "state" => state(&mut words)?,
-        _ => return Err(Unread::Because(Reason::UnknownWord)),
-    };
-    Ok(Line::Call(call))
+        _ => {}
+    }
+    let said = call(heap, kind, &mut words)?;
+    Ok(Line::Call(said))
 }

@@ -1,26 +1,36 @@
 // Writing a call as a line, and bytes as hexadecimal text.
+ghost use mathlib.Core.Path.{_≡_};
+ghost use Prim.Native.Nat.{_<_};
+ghost use Rattle.std.specs.Of.String.{string-bytes};
+ghost use Rattle.std.specs.Vec.{made};
+ghost use Rattle.script.specs.Hex.{hexChar, hexText};
 use crate::call::Call;
 use std::alloc::AllocError;
 use std::alloc::Global;
 
 // The character of a digit's value, small letters from ten on.
-fn digit(value: u8) -> char {
-    match value {
-        0..=9 => char::from(b'0' + value),
-        10..=15 => char::from(b'a' + (value - 10)),
-        _ => '?',
+fn digit(value: u8) -> char
+    requires { ⌜ value < 16 ⌝ }
+    ensures { λ r. ⌜ r ≡ hexChar value ⌝ }
+{
+    if value < 10 {
+        char::from(b'0' + value)
+    } else {
+        char::from(b'a' + (value - 10))
     }
 }
 
 // Bytes as pairs of hexadecimal digits, or - where there are none.
-pub fn hex_text(heap: Global, bytes: &[u8]) -> Result<String, AllocError> {
+pub fn hex_text(heap: Global, bytes: &[u8]) -> Result<String, AllocError>
+    ensures { λ r. ⌜ made r (λ t. string-bytes t ≡ hexText (now (bytes .entry))) ⌝ }
+{
+    if bytes.len() == 0 {
+        return String::from_str(heap, "-");
+    }
     let mut text = String::new(heap);
     for byte in bytes {
         text.push(digit(*byte / 16))?;
         text.push(digit(*byte % 16))?;
-    }
-    if text.is_empty() {
-        text.push('-')?;
     }
     Ok(text)
 }
