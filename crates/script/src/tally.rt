@@ -69,7 +69,7 @@ impl Tally {
         ensures value { λ r. ⌜ r ≡ now (self .entry) .calls ⌝ }
         ensures sum { λ r. ⌜ r ≡ now (self .entry) .accepted + now (self .entry) .refused ⌝ }
     {
-        self.calls
+        self.accepted + self.refused
     }
 }
 

@@ -3,6 +3,7 @@ ghost use mathlib.Core.Path.{_≡_};
 ghost use Prim.Native.Nat.{_<_};
 ghost use Rattle.std.specs.Of.String.{string-bytes};
 ghost use Rattle.std.specs.Vec.{made};
+ghost use Rattle.script.specs.Calls.{callLine};
 ghost use Rattle.script.specs.Hex.{hexChar, hexText};
 use crate::call::Call;
 use std::alloc::AllocError;
@@ -36,7 +37,9 @@ pub fn hex_text(heap: Global, bytes: &[u8]) -> Result<String, AllocError>
 }
 
 // The line that makes a call.
-pub fn write(heap: Global, call: &Call<'_>) -> Result<String, AllocError> {
+pub fn write(heap: Global, call: &Call<'_>) -> Result<String, AllocError>
+    ensures { λ r. ⌜ made r (λ t. string-bytes t ≡ callLine (now (call .entry))) ⌝ }
+{
     match call {
         Call::Station {
             name,
