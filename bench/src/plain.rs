@@ -192,20 +192,46 @@ fn block_of(s: State) -> Block {
     u128::from_be_bytes([p[0], q[0], u[0], v[0], p[1], q[1], u[1], v[1], p[2], q[2], u[2], v[2], p[3], q[3], u[3], v[3]])
 }
 
-fn sub_row(w: [u8; 4], table: &[u8; 256]) -> [u8; 4] {
-    [table[w[0] as usize], table[w[1] as usize], table[w[2] as usize], table[w[3] as usize]]
+fn substitute(b: u8) -> u8 {
+    SUBSTITUTES[b as usize]
 }
 
-fn sub_bytes(s: State, table: &[u8; 256]) -> State {
-    [sub_row(s[0], table), sub_row(s[1], table), sub_row(s[2], table), sub_row(s[3], table)]
+fn restore(b: u8) -> u8 {
+    ORIGINALS[b as usize]
+}
+
+fn sub_row(w: [u8; 4]) -> [u8; 4] {
+    [substitute(w[0]), substitute(w[1]), substitute(w[2]), substitute(w[3])]
+}
+
+fn sub_bytes(s: State) -> State {
+    [sub_row(s[0]), sub_row(s[1]), sub_row(s[2]), sub_row(s[3])]
+}
+
+fn inv_sub_row(w: [u8; 4]) -> [u8; 4] {
+    [restore(w[0]), restore(w[1]), restore(w[2]), restore(w[3])]
+}
+
+fn inv_sub_bytes(s: State) -> State {
+    [inv_sub_row(s[0]), inv_sub_row(s[1]), inv_sub_row(s[2]), inv_sub_row(s[3])]
 }
 
 fn shift_rows(s: State) -> State {
-    [s[0], [s[1][1], s[1][2], s[1][3], s[1][0]], [s[2][2], s[2][3], s[2][0], s[2][1]], [s[3][3], s[3][0], s[3][1], s[3][2]]]
+    [
+        [s[0][0], s[0][1], s[0][2], s[0][3]],
+        [s[1][1], s[1][2], s[1][3], s[1][0]],
+        [s[2][2], s[2][3], s[2][0], s[2][1]],
+        [s[3][3], s[3][0], s[3][1], s[3][2]],
+    ]
 }
 
 fn inv_shift_rows(s: State) -> State {
-    [s[0], [s[1][3], s[1][0], s[1][1], s[1][2]], [s[2][2], s[2][3], s[2][0], s[2][1]], [s[3][1], s[3][2], s[3][3], s[3][0]]]
+    [
+        [s[0][0], s[0][1], s[0][2], s[0][3]],
+        [s[1][3], s[1][0], s[1][1], s[1][2]],
+        [s[2][2], s[2][3], s[2][0], s[2][1]],
+        [s[3][1], s[3][2], s[3][3], s[3][0]],
+    ]
 }
 
 fn mix_row(a: [u8; 4], b: [u8; 4], c: [u8; 4], d: [u8; 4]) -> [u8; 4] {
@@ -242,7 +268,6 @@ fn next_row(w: [u8; 4], t: u8) -> [u8; 4] {
 }
 
 fn next_key(s: State, constant: u8) -> State {
-    let substitute = |b: u8| SUBSTITUTES[b as usize];
     [
         next_row(s[0], substitute(s[1][3]) ^ constant),
         next_row(s[1], substitute(s[2][3])),
@@ -251,38 +276,65 @@ fn next_key(s: State, constant: u8) -> State {
     ]
 }
 
+#[derive(Clone, Copy)]
+struct Round {
+    cells: State,
+}
+
 pub struct Aes128 {
-    keys: [State; 11],
+    keys: [Round; 11],
+}
+
+impl Aes128 {
+    fn round_key(&self, n: usize) -> State {
+        self.keys[n].cells
+    }
+
+    fn round(&self, i: usize, s: State) -> State {
+        let t = shift_rows(sub_bytes(s));
+        let t = if i < 9 { mix_columns(t) } else { t };
+        add_round_key(t, self.round_key(i + 1))
+    }
+
+    fn inv_round(&self, i: usize, s: State) -> State {
+        let t = add_round_key(inv_sub_bytes(inv_shift_rows(s)), self.round_key(i));
+        if i > 0 { inv_mix_columns(t) } else { t }
+    }
+
+    fn enciphered(&self, start: State) -> State {
+        let mut s = add_round_key(start, self.round_key(0));
+        for i in 0..10 {
+            s = self.round(i, s);
+        }
+        s
+    }
+
+    fn deciphered(&self, end: State) -> State {
+        let mut s = add_round_key(end, self.round_key(10));
+        for i in (0..10).rev() {
+            s = self.inv_round(i, s);
+        }
+        s
+    }
 }
 
 impl Cipher for Aes128 {
     fn new(key: [u8; 16]) -> Aes128 {
-        let mut keys = [rows_of(key); 11];
+        let mut keys = [Round { cells: rows_of(key) }; 11];
         let mut constant = 1;
         for i in 0..10 {
-            keys[i + 1] = next_key(keys[i], constant);
+            keys[i + 1] = Round { cells: next_key(keys[i].cells, constant) };
             constant = times_x(constant);
         }
         Aes128 { keys }
     }
 
     fn encrypt(&self, block: Block) -> Block {
-        let mut s = add_round_key(rows_of(block.to_be_bytes()), self.keys[0]);
-        for i in 0..10 {
-            let t = shift_rows(sub_bytes(s, &SUBSTITUTES));
-            let t = if i < 9 { mix_columns(t) } else { t };
-            s = add_round_key(t, self.keys[i + 1]);
-        }
-        block_of(s)
+        block_of(self.enciphered(rows_of(block.to_be_bytes())))
     }
 
     fn decrypt(&self, block: Block) -> Block {
-        let mut s = add_round_key(rows_of(block.to_be_bytes()), self.keys[10]);
-        for i in (0..10).rev() {
-            let t = add_round_key(sub_bytes(inv_shift_rows(s), &ORIGINALS), self.keys[i]);
-            s = if i > 0 { inv_mix_columns(t) } else { t };
-        }
-        block_of(s)
+        block_of(self.deciphered(rows_of(block.to_be_bytes())))
     }
 }
 
