@@ -33,22 +33,36 @@ pub fn load(bytes: &[u8], at: usize) -> Block
     load_whole(&block, 0)
 }
 
+// Writes a block over the 16 bytes from a place on, in two halves. A word's bytes are turned around and then written the last first,
+// since compilers make one instruction of that, and of the high half's to_be_bytes some forty.
+fn store_whole(bytes: &mut [u8], at: usize, block: Block)
+    requires { ⌜ at + 16 ≤ length (now bytes) ⌝ }
+    ensures { λ _. ⌜ now (bytes .exit) ≡ storedAt at block (now (bytes .entry)) ⌝ }
+{
+    let left = (block >> 64) as u64;
+    let right = (block % (1 << 64)) as u64;
+    bytes[at..at + 8].copy_from_slice(&left.swap_bytes().to_le_bytes());
+    bytes[at + 8..at + 16].copy_from_slice(&right.swap_bytes().to_le_bytes());
+}
+
 // The bytes of a block.
 fn bytes_of(block: Block) -> [u8; 16]
     ensures { λ r. ⌜ r ≡ bytesOf 16 block ⌝ }
 {
-    block.to_be_bytes()
+    let mut bytes = [0; 16];
+    store_whole(&mut bytes, 0, block);
+    bytes
 }
 
 // Writes the bytes of a block over the 16 from a place on, or over as many of them as there are.
-fn write_over(bytes: &mut [u8], at: usize, written: &[u8; 16])
-    ensures { λ _. ⌜ ((x : ℕ) → now (written .entry) ≡ bytesOf 16 x → now (bytes .exit) ≡ storedAt at x (now (bytes .entry))) ⌝ }
+fn write_over(bytes: &mut [u8], at: usize, block: Block)
+    ensures { λ _. ⌜ now (bytes .exit) ≡ storedAt at block (now (bytes .entry)) ⌝ }
 {
     let room = bytes.len().saturating_sub(at);
     if room >= 16 {
-        bytes[at..at + 16].copy_from_slice(written);
+        store_whole(bytes, at, block);
     } else if room > 0 {
-        bytes[at..].copy_from_slice(&written[0..room]);
+        bytes[at..].copy_from_slice(&bytes_of(block)[0..room]);
     }
 }
 
@@ -56,7 +70,7 @@ fn write_over(bytes: &mut [u8], at: usize, written: &[u8; 16])
 pub fn store(bytes: &mut [u8], at: usize, block: Block)
     ensures { λ _. ⌜ now (bytes .exit) ≡ storedAt at block (now (bytes .entry)) ⌝ }
 {
-    write_over(bytes, at, &bytes_of(block));
+    write_over(bytes, at, block);
 }
 
 // How a string is cut: how many blocks come before its last one, where that one begins, and how many bits it has.

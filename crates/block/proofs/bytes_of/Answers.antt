@@ -1,7 +1,6 @@
-use native.Mathlib.Nat.{div-one}
-use Rattle.block.specs.Bytes.{bytesOf}
+use mathlib.Core.Path.{refl}
+use Rattle.block.proofs.Places.{stored-own}
 use Rattle.block.proofs.bytes_of.Needs as need
 
 pub returns : need.returns
-unfolding bytesOf
-returns c = simp div-one (c .to-be-bytes .ensures)
+returns c = stored-own (c .args .block) _ (c .store-whole .last .bytes) refl (c .store-whole .ensures)
