@@ -39,6 +39,13 @@ fn ciphers<C: Cipher>(name: &str, number: u8, random: &mut Random) {
         || plain::decrypt_blocks::<C>(black_box(&key), black_box(&mut b)),
     );
     row(&format!("{name}, decrypt 64 blocks"), 1024, &timed, Some(1.05));
+    let timed = in_turns(
+        || {
+            library::encrypt_blocks(number, black_box(&key), black_box(&mut []));
+        },
+        || plain::encrypt_blocks::<C>(black_box(&key), black_box(&mut [])),
+    );
+    row(&format!("{name}, no block: the key alone"), 0, &timed, None);
 }
 
 /// What is sealed and opened.
