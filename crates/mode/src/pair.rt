@@ -1,5 +1,6 @@
 // A cipher and a masking together, and what they seal and open.
 ghost use mathlib.Core.Path.{_≡_};
+ghost use mathlib.Core.List.{List};
 ghost use Prim.Native.Nat.{ℕ, _+_, _*_, _≤_};
 ghost use lib.Bits.{bitXor};
 ghost use lib.ListN.{length, take, drop, replicate};
@@ -231,6 +232,31 @@ impl<C: Cipher, M: Masking> Pair<C, M> {
         self.header_tag_from(self.delta_zero(), header)
     }
 
+    // Writes the sealed bytes of a message, and answers what its body left.
+    fn seal_bytes(
+        &self,
+        mode: Mode,
+        delta_one: Block,
+        nonce: Block,
+        message: &[u8],
+        out: &mut [u8],
+    ) -> Body
+        requires { ⌜ «delta_one» ≡ deltaOne (mapsOf forward backward onward inward (now self)) ⌝ ∗ ⌜ length (now out) ≡ length (now message) ⌝ }
+        ensures done { λ r. ⌜ BodyDone (mapsOf forward backward onward inward (now (self .entry))) mode nonce (now (message .entry)) (now (out .exit)) (r .read) (r .written) (r .mask) (r .pad) ⌝ }
+        ensures bytes { λ _. ⌜ now (out .exit) ≡ sealedBytes (mapsOf forward backward onward inward (now (self .entry))) mode nonce (now (message .entry)) ⌝ }
+    {
+        self.cipher_body(mode, delta_one, nonce, message, out)
+    }
+
+    // The message tag, from what the body left and the sealed bytes.
+    fn message_tag(&self, delta_one: Block, body: Body, sealed: &[u8]) -> Block
+        requires { ⌜ «delta_one» ≡ deltaOne (mapsOf forward backward onward inward (now self)) ⌝ }
+        ensures { λ r. ⌜ ((mode : Mode) (nonce : ℕ) (message : List ℕ) → BodyDone (mapsOf forward backward onward inward (now (self .entry))) mode nonce message (now (sealed .entry)) (body .read) (body .written) (body .mask) (body .pad) → r ≡ messageTag (mapsOf forward backward onward inward (now (self .entry))) nonce message) ⌝ }
+    {
+        let at = Cut::of(sealed.len()).at;
+        self.tag_from(delta_one, body.mask, body.pad, body.read, &sealed[at..])
+    }
+
     // Seals a message without its header, and answers the message tag.
     fn seal_body(
         &self,
@@ -244,9 +270,8 @@ impl<C: Cipher, M: Masking> Pair<C, M> {
         ensures bytes { λ _. ⌜ now (out .exit) ≡ sealedBytes (mapsOf forward backward onward inward (now (self .entry))) mode nonce (now (message .entry)) ⌝ }
         ensures tag { λ r. ⌜ r ≡ messageTag (mapsOf forward backward onward inward (now (self .entry))) nonce (now (message .entry)) ⌝ }
     {
-        let body = self.cipher_body(mode, delta_one, nonce, message, out);
-        let at = Cut::of(message.len()).at;
-        self.tag_from(delta_one, body.mask, body.pad, body.read, &out[at..])
+        let body = self.seal_bytes(mode, delta_one, nonce, message, out);
+        self.message_tag(delta_one, body, out)
     }
 
     // Seals a message under its header, and answers the tag.
