@@ -1,4 +1,6 @@
 // AES-128 of FIPS 197, as a block cipher.
+#![tactic(auto)]
+
 ghost use Rattle.std.specs.Prelude.{◌≡◌, ℕ, ◌+◌, ◌/◌, ◌%◌, ◌<◌, ◌≤◌, [], MatchOption, slice_index_or};
 ghost use Rattle.block.specs.Bytes.{number_of};
 ghost use Rattle.aes.specs.Cipher.{round, last_round, inv_round_of, inv_last_round, enciphered, deciphered, cipher, inv_cipher};

@@ -1,4 +1,6 @@
 // Blocks of 16 bytes: reading and writing them, and how a string of bytes is cut into them.
+#![tactic(auto)]
+
 ghost use Rattle.std.specs.Prelude.{◌≡◌, ℕ, ◌+◌, ◌*◌, ◌≤◌, length};
 ghost use Rattle.block.specs.Bytes.{block_at, bytes_of, stored_at};
 ghost use Rattle.block.specs.Cut.{before, last_bits, fill_with};

@@ -1,4 +1,6 @@
 // The library for C: frames, modes and block ciphers, over numbers and byte strings. Here are the choices and the codes; the modules have the calls.
+#![tactic(auto)]
+
 ghost use Rattle.std.specs.Prelude.{◌≡◌, length};
 ghost use Rattle.mode.specs.Pairs.{maps_of};
 ghost use Rattle.capi.specs.Choices.{CipherIs, Chooses, aes_forward, aes_backward, speck_forward, speck_backward, aes_under, speck_under};

@@ -1,4 +1,6 @@
 // Block ciphers, by what they mean: two maps on blocks that undo each other.
+#![tactic(auto)]
+
 ghost use Rattle.std.specs.Prelude.{◌≡◌, ℕ};
 ghost use Rattle.block.specs.Maps.{IsBlock, Undo, same, undo_same, undo_swap};
 

@@ -1,4 +1,6 @@
 // Makes the calls of a script on real stations, one to a line of standard input, and prints the answers.
+#![tactic(auto)]
+
 mod member;
 mod runner;
 

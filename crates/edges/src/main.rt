@@ -1,4 +1,6 @@
 // The edges of frames, numbers and tickets, each tried and printed.
+#![tactic(auto)]
+
 use cipher::Identity;
 use masking::Doubling;
 use mode::Pair;

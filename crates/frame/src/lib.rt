@@ -1,4 +1,6 @@
 // Frames: a head of 32 bytes, a clear part, a sealed part and a tag.
+#![tactic(auto)]
+
 mod fault;
 mod pieces;
 mod sealing;

@@ -1,4 +1,6 @@
 // The field of 256 elements: the substitution of a byte, and the products that mix a column.
+#![tactic(auto)]
+
 ghost use Rattle.std.specs.Prelude.{◌≡◌, ℕ, ◌+◌, ◌*◌, ◌/◌, ◌%◌, ◌^◌, ◌<◌};
 ghost use Rattle.std.specs.Int.Bits.{bit_xor};
 ghost use Rattle.gf256.specs.Column.{coefficient, mixing, mixing_back};

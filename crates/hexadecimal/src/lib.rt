@@ -1,4 +1,6 @@
 // Hexadecimal text, read as the bytes that it spells.
+#![tactic(auto)]
+
 ghost use Rattle.std.specs.Prelude.{◌≡◌, ℕ, List, IfOk, MatchOption};
 ghost use Rattle.hexadecimal.specs.Hex.{digit_of, Spells};
 

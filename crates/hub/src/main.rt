@@ -1,4 +1,6 @@
 // The hub's task: it seals probe offsets for a valve head, the valve head opens them, and each step is said in plain words.
+#![tactic(auto)]
+
 mod reading;
 mod shown;
 mod steps;

@@ -1,4 +1,6 @@
 // The layers in which a refusal can arise.
+#![tactic(auto)]
+
 ghost use Rattle.std.specs.Prelude.{◌≡◌, Some};
 ghost use Rattle.layer.specs.Layers.{value_of, name_of};
 

@@ -1,4 +1,6 @@
 // Maskings of a block, by what they mean: a step and its way back.
+#![tactic(auto)]
+
 ghost use Rattle.std.specs.Prelude.{◌≡◌, ℕ, [], ◌∷◌, unsigned_abs};
 ghost use Rattle.block.specs.Maps.{IsBlock, Undo, same, undo_same};
 ghost use Rattle.masking.specs.Doubling.{doubled, undoubled};

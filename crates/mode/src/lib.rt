@@ -1,4 +1,6 @@
 // The two sealing modes, over any cipher and any masking.
+#![tactic(auto)]
+
 mod fault;
 mod pair;
 mod value;

@@ -1,4 +1,6 @@
 // What the station's law says to a caller who sees only its contracts.
+#![tactic(auto)]
+
 ghost use Rattle.station.specs.Laws.{Lasts};
 ghost use Rattle.replay.specs.Replay.{AtMostOne, plain, plain_maps};
 

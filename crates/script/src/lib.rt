@@ -1,4 +1,6 @@
 // Scripts of calls on stations, one to a line: reading a line, writing a call, printing the answers, and counting them.
+#![tactic(auto)]
+
 mod answer;
 mod call;
 mod cursor;

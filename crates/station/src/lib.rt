@@ -1,4 +1,6 @@
 // A station: it numbers the frames that it seals, and opens no number twice.
+#![tactic(auto)]
+
 mod fault;
 mod state;
 

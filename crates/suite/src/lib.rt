@@ -1,4 +1,6 @@
 // The choice of cipher and masking at run time.
+#![tactic(auto)]
+
 mod ciphers;
 mod maskings;
 

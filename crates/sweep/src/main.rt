@@ -1,4 +1,6 @@
 // Runs both modes over many lengths of header and message, under each cipher and masking, and says how many cases failed.
+#![tactic(auto)]
+
 mod bench;
 mod counting;
 mod tally;

@@ -1,4 +1,6 @@
 // What the hub has to send and to whom: probe offsets, the records that they travel in, and the words that name them.
+#![tactic(auto)]
+
 mod record;
 mod words;
 

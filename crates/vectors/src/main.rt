@@ -1,4 +1,6 @@
 // Compares published values, and values of an implementation written apart, with what this software computes.
+#![tactic(auto)]
+
 mod compare;
 mod row;
 

@@ -1,4 +1,6 @@
 // Values worked out by hand, proved of the definitions that the code is proved to follow.
+#![tactic(auto)]
+
 ghost use Rattle.std.specs.Prelude.{◌≡◌, length};
 ghost use Rattle.worked.specs.Rows.{table, TableHolds};
 

@@ -8,10 +8,10 @@ pub returns : goal.returns
 returns c =
     elim c.if-room-gt0.branch [
       | then-room-gt0 w ↦
-          c.load-whole-2.ensures
-          ∙ loaded_tail c.args.at c.saturating-sub-room.result c.args.bytes.now w.copy-from-slice.new.self c.if-room-gt0.block
-          (omega arith) c.if-room-ge16.false w.copy-from-slice.ensures.after w.block-is
+          c.load_whole-2.ensures
+          ∙ loaded_tail c.args.at c.saturating_sub-room.result c.args.bytes.now w.copy_from_slice.new.self c.if-room-gt0.block
+          (omega arith) c.if-room-ge16.false w.copy_from_slice.ensures.after w.block-is
       | else-room-gt0 w ↦
           let h : length c.args.bytes.now ≤ c.args.at = omega arith in
-          c.load-whole-2.ensures ∙ ap (block_at 0) w.block-is ∙ loaded_none c.args.at c.args.bytes.now h
+          c.load_whole-2.ensures ∙ ap (block_at 0) w.block-is ∙ loaded_none c.args.at c.args.bytes.now h
     ]
