@@ -76,7 +76,7 @@ cipher-undo cipher_undo
 cipherNumber cipher_number
 clear-is clear_is
 clear-length clear_length_lem
-clear-short clear_short_lem
+clear-short clear_short
 clearLength clear_length
 clearPart clear_part
 clearStart clear_start
@@ -252,7 +252,7 @@ masked-fits masked_fits
 masked-undo masked_undo
 masking-undo masking_undo
 maskingNumber masking_number
-message-short message_short_lem
+message-short message_short
 message-sum-fits message_sum_fits
 messageTag message_tag_of
 mix-unmix mix_unmix
@@ -396,7 +396,7 @@ seal-tag seal_tag
 sealNumber seal_number
 sealNumbers seal_numbers
 sealed-again sealed_again
-sealed-at sealed_at_lem
+sealed-at sealed_at
 sealed-is sealed_is
 sealed-length sealed_length_lem
 sealed-opened sealed_opened

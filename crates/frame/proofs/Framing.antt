@@ -99,11 +99,11 @@ framed_seals w laws sender number m n clear message was out hs hc hm f =
     let is : take n out ≡ frame =
     ap (take n) f.out_is ∙ take_at frame (drop n was) n (frame_length w f.mode sender number clear message ∙ sym f.length_is) in
     let seals : SealsTo w message (take n out) =
-    subst (SealsTo w message) (sym is) (frame_seals w laws f.mode sender number clear message hs hc hm f.clear_short_lem f.message_short_lem) in
+    subst (SealsTo w message) (sym is) (frame_seals w laws f.mode sender number clear message hs hc hm f.clear_short f.message_short) in
     record {
       sender_is = ap sender_of is ∙ frame_sender w f.mode sender number clear message;
       number_is = ap frame_number is ∙ frame_number_low w f.mode sender number clear message;
-      clear_is = ap clear_part is ∙ frame_clear w f.mode sender number clear message f.clear_short_lem;
+      clear_is = ap clear_part is ∙ frame_clear w f.mode sender number clear message f.clear_short;
       seals = seals;
       alone = λ other t. only_one w laws (take n out) other message t seals;
       apart = λ g other b t. never_neighbours w laws (take n out) g message other b seals t;

@@ -24,7 +24,7 @@ pub record PartsOf (f : List ℕ) (p : FrameParts) : Type 0 where
   pub header_is : p.header.now ≡ header_of f
   pub clear_at : p.clear.at ≡ 32
   pub clear_is : p.clear.bytes.now ≡ clear_part f
-  pub sealed_at_lem : p.sealed.at ≡ sealed_start f
+  pub sealed_at : p.sealed.at ≡ sealed_start f
   pub sealed_is : p.sealed.bytes.now ≡ sealed_part f
   pub tag_at : p.tag.at ≡ tag_start f
   pub tag_is : p.tag.bytes.now ≡ tag_part f
@@ -48,8 +48,8 @@ PartsGives f (Err fault) = Malformed f fault
 pub record Framed (w : Maps) (sender number m : ℕ) (clear message was out : List ℕ) (n : ℕ) : Type 0 where
   pub mode : Mode
   pub mode_is : m ≡ mode_value mode
-  pub clear_short_lem : length clear ≤ 1024
-  pub message_short_lem : length message ≤ 1024
+  pub clear_short : length clear ≤ 1024
+  pub message_short : length message ≤ 1024
   pub length_is : n ≡ 48 + length clear + length message
   pub room : n ≤ length was
   pub out_is : out ≡ frame_of w mode sender number clear message ++ drop n was

@@ -7,9 +7,9 @@ pub returns-then-i-gt0 : goal.returns-then-i-gt0
 returns-then-i-gt0 c =
     record {
       inner =
-          λ _. inv_inner_round (get_or (cells_of c.args.self.now.keys) c.args.i []) c.args.s c.inv-sub-bytes.result c.inv-shift-rows.result
-          c.round-key.result c.inv-mix-columns.result c.add-round-key-t.result
-          c.inv-shift-rows.ensures c.inv-sub-bytes.ensures c.round-key.ensures c.add-round-key-t.ensures c.inv-mix-columns.ensures;
+          λ _. inv_inner_round (get_or (cells_of c.args.self.now.keys) c.args.i []) c.args.s c.inv_sub_bytes.result c.inv_shift_rows.result
+          c.round_key.result c.inv_mix_columns.result c.add_round_key-t.result
+          c.inv_shift_rows.ensures c.inv_sub_bytes.ensures c.round_key.ensures c.add_round_key-t.ensures c.inv_mix_columns.ensures;
       last = λ h. absurd (omega arith);
     }
 
@@ -18,7 +18,7 @@ returns-else-i-gt0 c =
     record {
       inner = λ h. absurd (omega arith);
       last =
-          λ _. inv_last_round_lem (get_or (cells_of c.args.self.now.keys) c.args.i []) c.args.s c.inv-sub-bytes.result c.inv-shift-rows.result
-          c.round-key.result c.add-round-key-t.result
-          c.inv-shift-rows.ensures c.inv-sub-bytes.ensures c.round-key.ensures c.add-round-key-t.ensures;
+          λ _. inv_last_round_lem (get_or (cells_of c.args.self.now.keys) c.args.i []) c.args.s c.inv_sub_bytes.result c.inv_shift_rows.result
+          c.round_key.result c.add_round_key-t.result
+          c.inv_shift_rows.ensures c.inv_sub_bytes.ensures c.round_key.ensures c.add_round_key-t.ensures;
     }

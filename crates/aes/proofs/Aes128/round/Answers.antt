@@ -11,15 +11,15 @@ returns c =
       | then-i-lt9 w ↦
           record {
             inner =
-                λ _. inner_round k c.args.s c.sub-bytes.result c.shift-rows-t.result c.round-key.result c.add-round-key.result c.if-i-lt9.t
-                c.sub-bytes.ensures c.shift-rows-t.ensures (w.t-is ∙ w.mix-columns-t.ensures) c.round-key.ensures c.add-round-key.ensures;
+                λ _. inner_round k c.args.s c.sub_bytes.result c.shift_rows-t.result c.round_key.result c.add_round_key.result c.if-i-lt9.t
+                c.sub_bytes.ensures c.shift_rows-t.ensures (w.t-is ∙ w.mix_columns-t.ensures) c.round_key.ensures c.add_round_key.ensures;
             last = λ h. absurd (omega arith);
           }
       | else-i-lt9 w ↦
           record {
             inner = λ h. absurd (omega arith);
             last =
-                λ _. last_round_lem k c.args.s c.sub-bytes.result c.if-i-lt9.t c.round-key.result c.add-round-key.result
-                c.sub-bytes.ensures (w.t-is ∙ c.shift-rows-t.ensures) c.round-key.ensures c.add-round-key.ensures;
+                λ _. last_round_lem k c.args.s c.sub_bytes.result c.if-i-lt9.t c.round_key.result c.add_round_key.result
+                c.sub_bytes.ensures (w.t-is ∙ c.shift_rows-t.ensures) c.round_key.ensures c.add_round_key.ensures;
           }
     ]

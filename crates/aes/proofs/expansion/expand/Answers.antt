@@ -7,21 +7,21 @@ use Rattle.aes.proofs.Words.{Expanding, expanding_none, expanding_more, expandin
 use Rattle.aes.proofs.expansion.expand.Goals as goal
 
 pub loop-i-init : goal.loop-i-init
-loop-i-init c = expanding_none c.rows-of.result _ refl refl
+loop-i-init c = expanding_none c.rows_of.result _ refl refl
 
 pub loop-i-preserved : goal.loop-i-preserved
 loop-i-preserved c =
-    expanding_more c.rows-of.result c.loop-i.i c.loop-i.constant c.times-x-constant.result c.loop-i.keys c.next-key.result
-    c.loop-i-test.true c.loop-i.invariant c.next-key.ensures c.times-x-constant.ensures
+    expanding_more c.rows_of.result c.loop-i.i c.loop-i.constant c.times_x-constant.result c.loop-i.keys c.next_key.result
+    c.loop-i-test.true c.loop-i.invariant c.next_key.ensures c.times_x-constant.ensures
 
 pub returns : goal.returns
 returns c =
     let e : c.loop-i.i ≡ 10 = omega arith in
     let k : cells_of c.loop-i.keys ≡ round_keys c.args.key =
     expanding_all c.args.key c.loop-i.i c.loop-i.constant c.loop-i.keys e
-    (subst (λ (s : State). Expanding s c.loop-i.i c.loop-i.constant c.loop-i.keys) c.rows-of.ensures.rows c.loop-i.invariant) in
+    (subst (λ (s : State). Expanding s c.loop-i.i c.loop-i.constant c.loop-i.keys) c.rows_of.ensures.rows c.loop-i.invariant) in
     record {
       keys = k;
       words = λ i h. ap (λ (ks : List State). word_at ks i) k ∙ round_key_words c.args.key i h;
-      bytes = subst AllKeyBytes (sym k) (round_keys_bytes c.args.key c.rows-of.ensures.bytes);
+      bytes = subst AllKeyBytes (sym k) (round_keys_bytes c.args.key c.rows_of.ensures.bytes);
     }

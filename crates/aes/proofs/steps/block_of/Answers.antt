@@ -4,4 +4,4 @@ use Rattle.aes.proofs.steps.block_of.Goals as goal
 
 pub returns : goal.returns
 unfolding block_of
-returns c = c.from-be-bytes.ensures ∙ omega arith
+returns c = c.from_be_bytes.ensures ∙ omega arith

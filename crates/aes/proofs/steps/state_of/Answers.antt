@@ -6,5 +6,5 @@ use Rattle.aes.proofs.steps.state_of.Goals as goal
 pub returns : goal.returns
 unfolding state_of bytes_of
 returns c =
-    let e : c.to-be-bytes.result ≡ bytes_of 16 c.args.block = simp div-one c.to-be-bytes.ensures in
-    c.rows-of.ensures.rows ∙ ap rows_of e
+    let e : c.to_be_bytes.result ≡ bytes_of 16 c.args.block = simp div-one c.to_be_bytes.ensures in
+    c.rows_of.ensures.rows ∙ ap rows_of e

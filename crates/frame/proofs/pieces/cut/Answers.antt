@@ -10,8 +10,8 @@ part f a b m n p q = ap₂ (λ (x y : ℕ). take y (drop x f)) p q
 pub returns : goal.returns
 returns c =
     let all = c.requires.fields in
-    let s : c.number-sealed-at.result ≡ sealed_start c.args.frame.now = c.number-sealed-at.ensures in
-    let t : c.number-tag-at.result ≡ tag_start c.args.frame.now = c.number-tag-at.ensures in
+    let s : c.number-sealed_at.result ≡ sealed_start c.args.frame.now = c.number-sealed_at.ensures in
+    let t : c.number-tag_at.result ≡ tag_start c.args.frame.now = c.number-tag_at.ensures in
     let s' = all.0.0.0.0.1 in
     let t' = all.0.0.0.1 in
     let e = c.requires.whole in
@@ -27,15 +27,15 @@ returns c =
       mode_is = refl;
       sender_is = refl;
       number_is = c.number.ensures;
-      header_is = part c.args.frame.now 0 0 (c.number-sealed-at.result - 0) (sealed_start c.args.frame.now) refl (omega arith);
-      clear_at = c.piece-of.ensures.place;
-      clear_is = c.piece-of.ensures.bytes ∙ part c.args.frame.now 32 32 (c.number-sealed-at.result - 32) (clear_length c.args.frame.now) refl (omega arith);
-      sealed_at_lem = c.piece-of-2.ensures.place ∙ s;
+      header_is = part c.args.frame.now 0 0 (c.number-sealed_at.result - 0) (sealed_start c.args.frame.now) refl (omega arith);
+      clear_at = c.piece_of.ensures.place;
+      clear_is = c.piece_of.ensures.bytes ∙ part c.args.frame.now 32 32 (c.number-sealed_at.result - 32) (clear_length c.args.frame.now) refl (omega arith);
+      sealed_at = c.piece_of-2.ensures.place ∙ s;
       sealed_is =
-          c.piece-of-2.ensures.bytes
-          ∙ part c.args.frame.now c.number-sealed-at.result (sealed_start c.args.frame.now) (c.number-tag-at.result - c.number-sealed-at.result) (sealed_length c.args.frame.now) s (omega arith);
-      tag_at = c.piece-of-3.ensures.place ∙ t;
+          c.piece_of-2.ensures.bytes
+          ∙ part c.args.frame.now c.number-sealed_at.result (sealed_start c.args.frame.now) (c.number-tag_at.result - c.number-sealed_at.result) (sealed_length c.args.frame.now) s (omega arith);
+      tag_at = c.piece_of-3.ensures.place ∙ t;
       tag_is =
-          c.piece-of-3.ensures.bytes
-          ∙ part c.args.frame.now c.number-tag-at.result (tag_start c.args.frame.now) (length c.args.frame.now - c.number-tag-at.result) 16 t (omega arith);
+          c.piece_of-3.ensures.bytes
+          ∙ part c.args.frame.now c.number-tag_at.result (tag_start c.args.frame.now) (length c.args.frame.now - c.number-tag_at.result) 16 t (omega arith);
     }

@@ -16,14 +16,14 @@ returns g c =
     record {
       mode = c.args.mode;
       mode_is = e;
-      clear_short_lem = c.requires.clear_short_lem;
-      message_short_lem = c.requires.message_short_lem;
+      clear_short = c.requires.clear_short;
+      message_short = c.requires.message_short;
       length_is = omega arith;
       room = omega arith;
       out_is =
-          framed w c.args.mode c.args.sender c.args.number c.args.clear.now c.args.message.now c.args.out.now c.copy-from-slice.new.self c.copy-from-slice-2.new.self
-          c.seal-behind.new.buf c.store.new.bytes c.load-nonce.result c.in-ok-tag.tag (omega arith) (c.copy-from-slice.ensures.after ∙ c.head.ensures)
-          c.copy-from-slice-2.ensures.after c.load-nonce.ensures c.in-ok-tag.ensures c.store.ensures;
+          framed w c.args.mode c.args.sender c.args.number c.args.clear.now c.args.message.now c.args.out.now c.copy_from_slice.new.self c.copy_from_slice-2.new.self
+          c.seal_behind.new.buf c.store.new.bytes c.load-nonce.result c.in_ok-tag.tag (omega arith) (c.copy_from_slice.ensures.after ∙ c.head.ensures)
+          c.copy_from_slice-2.ensures.after c.load-nonce.ensures c.in_ok-tag.ensures c.store.ensures;
     } in
     record {
       gives = gives;

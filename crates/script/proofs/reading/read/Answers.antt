@@ -6,5 +6,5 @@ use Rattle.script.proofs.reading.read.Goals as goal
 
 pub returns : goal.returns
 returns c =
-    kind_first (words_of c.args.line.now) c.in-Some.kind.now _ c.in-ok-said.said
-    (sym (ap words_of c.new-words.ensures) ∙ c.in-Some.ensures) c.in-ok-said.ensures
+    kind_first (words_of c.args.line.now) c.in-Some.kind.now _ c.in_ok-said.said
+    (sym (ap words_of c.new-words.ensures) ∙ c.in-Some.ensures) c.in_ok-said.ensures

@@ -13,9 +13,9 @@ loop-byte-preserved c =
     let high : get_or c.args.bytes.now c.loop-byte.byte-index 0 / 16 < 16 = search rules in
     let low : get_or c.args.bytes.now c.loop-byte.byte-index 0 % 16 < 16 = search rules in
     hex_more c.args.bytes.now c.loop-byte.byte-index _ _ _ _ _ c.digit.result c.digit-in-loop-byte.result c.loop-byte-test.true c.loop-byte.invariant
-    c.in-ok-push.ensures.bytes c.in-ok-push-2.ensures.bytes
-    (c.in-ok-push.ensures.ascii (digit_low _ _ high c.digit.ensures))
-    (c.in-ok-push-2.ensures.ascii (digit_low _ _ low c.digit-in-loop-byte.ensures))
+    c.in_ok-push.ensures.bytes c.in_ok-push-2.ensures.bytes
+    (c.in_ok-push.ensures.ascii (digit_low _ _ high c.digit.ensures))
+    (c.in_ok-push-2.ensures.ascii (digit_low _ _ low c.digit-in-loop-byte.ensures))
     c.digit.ensures c.digit-in-loop-byte.ensures
 
 pub returns : goal.returns

@@ -11,7 +11,7 @@ loop-offset-init c = c.new-bytes.ensures.items
 
 pub loop-offset-preserved : goal.loop-offset-preserved
 loop-offset-preserved c =
-    let grown = c.in-ok-extend-from-slice.ensures.items in
+    let grown = c.in_ok-extend_from_slice.ensures.items in
     packed_next c.args.offsets.now _ c.loop-offset.offset-index _ _ _ c.loop-offset-test.true c.loop-offset.invariant grown c.record.ensures
 
 pub returns : goal.returns

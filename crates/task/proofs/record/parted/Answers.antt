@@ -10,4 +10,4 @@ loop-i-init c = rw c.new-offsets.ensures.items refl
 
 pub loop-i-preserved : goal.loop-i-preserved
 loop-i-preserved c =
-    unpacked_more _ _ _ c.args.bytes.now _ c.loop-i.i c.in-ok-push.ensures.items c.loop-i.invariant c.of-record.ensures c.copy-from-slice.ensures.after
+    unpacked_more _ _ _ c.args.bytes.now _ c.loop-i.i c.in_ok-push.ensures.items c.loop-i.invariant c.of_record.ensures c.copy_from_slice.ensures.after

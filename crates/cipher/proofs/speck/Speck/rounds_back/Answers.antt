@@ -9,8 +9,8 @@ loop-i-init c = behind_first c.args.self.now.keys c.args.words.left c.args.words
 pub loop-i-preserved : goal.loop-i-preserved
 loop-i-preserved c =
     behind_more c.args.self.now.keys c.args.self.now.fit (joined c.args.words.left c.args.words.right)
-    c.loop-i.i c.loop-i.words.left c.loop-i.words.right c.round-back-words.result.left c.round-back-words.result.right
-    c.loop-i-test.true (omega arith) c.round-back-words.ensures.left c.round-back-words.ensures.right c.loop-i.invariant
+    c.loop-i.i c.loop-i.words.left c.loop-i.words.right c.round_back-words.result.left c.round_back-words.result.right
+    c.loop-i-test.true (omega arith) c.round_back-words.ensures.left c.round_back-words.ensures.right c.loop-i.invariant
 
 pub returns : goal.returns
 returns c =

@@ -9,9 +9,9 @@ unfolding old_left old_right
 returns c =
     record {
       left =
-          c.rotate-left-left.ensures
-          ∙ left_8 ((bit_xor c.args.self.left c.args.key + (2 ^ 64 - c.rotate-right-right.result)) % 2 ^ 64) (omega arith);
+          c.rotate_left-left.ensures
+          ∙ left_8 ((bit_xor c.args.self.left c.args.key + (2 ^ 64 - c.rotate_right-right.result)) % 2 ^ 64) (omega arith);
       right =
-          c.rotate-right-right.ensures
+          c.rotate_right-right.ensures
           ∙ right_3 (bit_xor c.args.self.right c.args.self.left) (xor_lt 64 c.args.self.right c.args.self.left (omega arith) (omega arith));
     }

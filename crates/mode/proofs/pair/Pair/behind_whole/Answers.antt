@@ -11,14 +11,14 @@ use Rattle.mode.proofs.pair.Pair.behind_whole.Goals as goal
 abbrev maps : (g : given.Over) → Pair g.row.C.Denot g.row.M.Denot → Maps
 maps g pair = maps_of g.C.Cipher.forward g.C.Cipher.backward g.M.Masking.onward g.M.Masking.inward pair
 
-pub seal-body-tag-requires : goal.seal-body-tag-requires
-seal-body-tag-requires g c = (c.delta-one-delta-one.ensures, simp (length-take, length-drop) (omega arith))
+pub seal_body-tag-requires : goal.seal_body-tag-requires
+seal_body-tag-requires g c = (c.delta_one-delta_one.ensures, simp (length-take, length-drop) (omega arith))
 
-pub header-tag-from-header-tag-requires : goal.header-tag-from-header-tag-requires
-header-tag-from-header-tag-requires g c = c.delta-zero-delta-zero.ensures
+pub header_tag_from-header_tag-requires : goal.header_tag_from-header_tag-requires
+header_tag_from-header_tag-requires g c = c.delta_zero-delta_zero.ensures
 
 pub returns : goal.returns
 returns g c =
-    behind_ends (maps g c.args.self.now) c.args.mode c.args.nonce c.args.header-len c.args.message.now c.args.buf.now c.seal-body-tag.new.out
-    c.seal-body-tag.result c.header-tag-from-header-tag.result (bytes_from c.args.message.now (λ i. search rules)) (omega arith)
-    c.seal-body-tag.ensures.bytes c.seal-body-tag.ensures.tag (simp sub-zero at c.header-tag-from-header-tag.ensures)
+    behind_ends (maps g c.args.self.now) c.args.mode c.args.nonce c.args.header_len c.args.message.now c.args.buf.now c.seal_body-tag.new.out
+    c.seal_body-tag.result c.header_tag_from-header_tag.result (bytes_from c.args.message.now (λ i. search rules)) (omega arith)
+    c.seal_body-tag.ensures.bytes c.seal_body-tag.ensures.tag (simp sub-zero at c.header_tag_from-header_tag.ensures)

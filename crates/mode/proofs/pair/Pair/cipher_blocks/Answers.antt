@@ -19,8 +19,8 @@ loop-i-init g c =
 pub loop-i-preserved : goal.loop-i-preserved
 loop-i-preserved g c =
     body-again (maps g c.args.self.now) c.args.mode c.args.gamma c.loop-i.i c.args.input.now c.args.out.now
-    c.loop-i.out c.cipher-block-x.new.out c.loop-i.read c.loop-i.written c.loop-i.mask c.cipher-block-x.result.0 c.cipher-block-x.result.1 c.step-mask.result
-    c.loop-i.invariant c.step-mask.ensures c.cipher-block-x.ensures.read c.cipher-block-x.ensures.written (omega arith) c.cipher-block-x.ensures.stored
+    c.loop-i.out c.cipher_block-x.new.out c.loop-i.read c.loop-i.written c.loop-i.mask c.cipher_block-x.result.0 c.cipher_block-x.result.1 c.step-mask.result
+    c.loop-i.invariant c.step-mask.ensures c.cipher_block-x.ensures.read c.cipher_block-x.ensures.written (omega arith) c.cipher_block-x.ensures.stored
 
 pub returns : goal.returns
 returns g c =

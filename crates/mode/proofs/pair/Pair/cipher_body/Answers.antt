@@ -10,7 +10,7 @@ maps g pair = maps_of g.C.Cipher.forward g.C.Cipher.backward g.M.Masking.onward 
 
 pub returns : goal.returns
 returns g c =
-    body-ends (maps g c.args.self.now) c.args.mode c.args.nonce c.args.delta-one
-    c.encrypt-gamma.result c.of-cut.result.at c.args.input.now c.args.out.now c.cipher-blocks-read.new.out c.xor-piece.new.out
-    c.cipher-blocks-read.result.0 c.cipher-blocks-read.result.1 c.cipher-blocks-read.result.2 c.step-mask.result c.pad-pad.result c.of-cut.result.bits
-    c.requires.0 c.encrypt-gamma.ensures c.requires.1 c.cipher-blocks-read.ensures c.of-cut.ensures.at c.step-mask.ensures c.of-cut.ensures.bits c.pad-pad.ensures c.xor-piece.ensures
+    body-ends (maps g c.args.self.now) c.args.mode c.args.nonce c.args.delta_one
+    c.encrypt-gamma.result c.of-cut.result.at c.args.input.now c.args.out.now c.cipher_blocks-read.new.out c.xor_piece.new.out
+    c.cipher_blocks-read.result.0 c.cipher_blocks-read.result.1 c.cipher_blocks-read.result.2 c.step-mask.result c.pad-pad.result c.of-cut.result.bits
+    c.requires.0 c.encrypt-gamma.ensures c.requires.1 c.cipher_blocks-read.ensures c.of-cut.ensures.at c.step-mask.ensures c.of-cut.ensures.bits c.pad-pad.ensures c.xor_piece.ensures

@@ -25,13 +25,13 @@ loop-i-preserved g c =
     times_again (g.M.Masking.onward c.args.self.now.masking) c.loop-i.i c.kappa-kappa.result c.loop-i.mask c.step-mask.result c.loop-i.invariant.0 c.step-mask.ensures in (
       m,
       header_again (maps g c.args.self.now) c.loop-i.i c.loop-i.sum c.kappa-kappa.result c.load-x.result c.step-mask.result c.encrypt-sum.result c.args.header.now
-          c.loop-i.invariant.1 (kappa_is (maps g c.args.self.now) c.args.delta-zero c.kappa-kappa.result c.requires c.kappa-kappa.ensures) m c.load-x.ensures c.encrypt-sum.ensures,
+          c.loop-i.invariant.1 (kappa_is (maps g c.args.self.now) c.args.delta_zero c.kappa-kappa.result c.requires c.kappa-kappa.ensures) m c.load-x.ensures c.encrypt-sum.ensures,
     )
 
 pub closing-closing-requires : goal.closing-closing-requires
 closing-closing-requires g c =
     let n : c.loop-i.i ≡ c.of-n.result.before = omega arith in (
-      kappa_is (maps g c.args.self.now) c.args.delta-zero c.kappa-kappa.result c.requires c.kappa-kappa.ensures,
+      kappa_is (maps g c.args.self.now) c.args.delta_zero c.kappa-kappa.result c.requires c.kappa-kappa.ensures,
       c.loop-i.invariant.0 ∙ ap (λ (k : ℕ). times (g.M.Masking.onward c.args.self.now.masking) k c.kappa-kappa.result) n,
     )
 

@@ -15,5 +15,5 @@ pub returns : goal.returns
 returns g c mode nonce message t =
     let l = ap length t.out_is ∙ length-body _ _ message in
     seal_tag (maps g c.args.self.now) mode nonce message c.args.sealed.now
-    c.args.body.read c.args.body.written c.args.body.mask c.args.body.pad c.args.delta-one c.tag-from.result c.of-at.result.at
-    t c.requires (c.of-at.ensures.at ∙ ap (λ (n : ℕ). 16 * before n) l) c.tag-from.ensures
+    c.args.body.read c.args.body.written c.args.body.mask c.args.body.pad c.args.delta_one c.tag_from.result c.of-at.result.at
+    t c.requires (c.of-at.ensures.at ∙ ap (λ (n : ℕ). 16 * before n) l) c.tag_from.ensures

@@ -15,17 +15,17 @@ maps g pair = maps_of g.C.Cipher.forward g.C.Cipher.backward g.M.Masking.onward 
 lawful : (g : given.Over) (pair : Pair g.row.C.Denot g.row.M.Denot) → Lawful (maps g pair)
 lawful g pair = record { cipher = g.C.Cipher.laws pair.cipher; masking = g.M.Masking.laws pair.masking }
 
-pub cipher-body-body-requires : goal.cipher-body-body-requires
-cipher-body-body-requires g c = (c.delta-one-delta-one.ensures, omega arith)
+pub cipher_body-body-requires : goal.cipher_body-body-requires
+cipher_body-body-requires g c = (c.delta_one-delta_one.ensures, omega arith)
 
-pub header-tag-from-requires : goal.header-tag-from-requires
-header-tag-from-requires g c = c.delta-zero-delta-zero.ensures
+pub header_tag_from-requires : goal.header_tag_from-requires
+header_tag_from-requires g c = c.delta_zero-delta_zero.ensures
 
 pub returns : goal.returns
 returns g c =
     let P : Mode → Type 0 = λ m.
-    BodyDone (maps g c.args.self.now) m c.args.nonce c.args.sealed.now c.cipher-body-body.new.out c.cipher-body-body.result.read c.cipher-body-body.result.written c.cipher-body-body.result.mask c.cipher-body-body.result.pad in
-    decided (maps g c.args.self.now) (lawful g c.args.self.now) c.args.mode c.args.nonce (search rules) c.args.header.now c.args.sealed.now c.cipher-body-body.new.out
-    c.cipher-body-body.result.read c.cipher-body-body.result.written c.cipher-body-body.result.mask c.cipher-body-body.result.pad c.delta-one-delta-one.result c.tag-from-own.result c.header-tag-from.result c.of-at.result.at
-    (bytes_from c.args.sealed.now (λ i. search rules)) (subst P c.other.ensures c.cipher-body-body.ensures)
-    c.delta-one-delta-one.ensures c.of-at.ensures.at c.tag-from-own.ensures c.header-tag-from.ensures c.args.tag
+    BodyDone (maps g c.args.self.now) m c.args.nonce c.args.sealed.now c.cipher_body-body.new.out c.cipher_body-body.result.read c.cipher_body-body.result.written c.cipher_body-body.result.mask c.cipher_body-body.result.pad in
+    decided (maps g c.args.self.now) (lawful g c.args.self.now) c.args.mode c.args.nonce (search rules) c.args.header.now c.args.sealed.now c.cipher_body-body.new.out
+    c.cipher_body-body.result.read c.cipher_body-body.result.written c.cipher_body-body.result.mask c.cipher_body-body.result.pad c.delta_one-delta_one.result c.tag_from-own.result c.header_tag_from.result c.of-at.result.at
+    (bytes_from c.args.sealed.now (λ i. search rules)) (subst P c.other.ensures c.cipher_body-body.ensures)
+    c.delta_one-delta_one.ensures c.of-at.ensures.at c.tag_from-own.ensures c.header_tag_from.ensures c.args.tag

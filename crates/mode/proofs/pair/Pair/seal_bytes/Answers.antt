@@ -11,8 +11,8 @@ maps g pair = maps_of g.C.Cipher.forward g.C.Cipher.backward g.M.Masking.onward 
 pub returns : goal.returns
 returns g c =
     record {
-      done = c.cipher-body.ensures;
+      done = c.cipher_body.ensures;
       bytes =
-          seal_bytes_lem (maps g c.args.self.now) c.args.mode c.args.nonce c.args.message.now c.cipher-body.new.out
-          c.cipher-body.result.read c.cipher-body.result.written c.cipher-body.result.mask c.cipher-body.result.pad c.cipher-body.ensures;
+          seal_bytes_lem (maps g c.args.self.now) c.args.mode c.args.nonce c.args.message.now c.cipher_body.new.out
+          c.cipher_body.result.read c.cipher_body.result.written c.cipher_body.result.mask c.cipher_body.result.pad c.cipher_body.ensures;
     }

@@ -8,5 +8,5 @@ pub returns : goal.returns
 returns c =
     let z = c.args.self.hundredths in
     let fits : SFits w16 z = search rules in
-    let e : c.cast-unsigned.result ≡ of_z w16 z = c.cast-unsigned.ensures ∙ ap (of_z w16) (to_z-of_z w16 z fits) in
-    written c.args.self.serial (of_z w16 z) c.to-be-bytes.result c.to-be-bytes-2.result c.to-be-bytes.ensures (rw e at c.to-be-bytes-2.ensures)
+    let e : c.cast_unsigned.result ≡ of_z w16 z = c.cast_unsigned.ensures ∙ ap (of_z w16) (to_z-of_z w16 z fits) in
+    written c.args.self.serial (of_z w16 z) c.to_be_bytes.result c.to_be_bytes-2.result c.to_be_bytes.ensures (rw e at c.to_be_bytes-2.ensures)
