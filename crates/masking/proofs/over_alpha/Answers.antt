@@ -3,8 +3,8 @@ use lib.Bits.{bit_xor, xor_lt}
 use Rattle.block.specs.Double.{halve}
 use Rattle.masking.proofs.over_alpha.Goals as goal
 
-pub overflow-add-result : goal.overflow-add-result
-overflow-add-result c =
+pub overflow_add-result : goal.overflow_add-result
+overflow_add-result c =
     let y : ℕ = c.args.w in
     let a : 0x0a000021 * (y % 2) < 2 ^ 32 = omega arith in
     let b : y < 2 ^ 32 = omega arith in

@@ -4,11 +4,11 @@ use Rattle.block.specs.Bytes.{number_of}
 use Rattle.frame.proofs.Reading.{number_more, number_small, number_grows}
 use Rattle.frame.proofs.pieces.number.Goals as goal
 
-pub overflow-mul-all : goal.overflow-mul-all
-overflow-mul-all c = let s = number_small c.loop-byte.byte-index c.loop-byte.all (omega arith) c.loop-byte.invariant.1 in omega arith
+pub overflow_mul-all : goal.overflow_mul-all
+overflow_mul-all c = let s = number_small c.loop-byte.byte-index c.loop-byte.all (omega arith) c.loop-byte.invariant.1 in omega arith
 
-pub overflow-add-all : goal.overflow-add-all
-overflow-add-all c = let s = number_small c.loop-byte.byte-index c.loop-byte.all (omega arith) c.loop-byte.invariant.1 in omega arith
+pub overflow_add-all : goal.overflow_add-all
+overflow_add-all c = let s = number_small c.loop-byte.byte-index c.loop-byte.all (omega arith) c.loop-byte.invariant.1 in omega arith
 
 pub loop-byte-preserved : goal.loop-byte-preserved
 loop-byte-preserved c = (
