@@ -11,7 +11,7 @@ use cipher::{Cipher, Inverse, Speck};
 // Encrypts every whole block in place, and leaves the bytes behind them; answers how many bytes the blocks have.
 fn encrypt_each<C: Cipher>(cipher: &C, bytes: &mut [u8]) -> u64
     ensures count { result ≡ 16 * (length bytes.old / 16) }
-    ensures blocks { (f : ℕ → ℕ) → C.Cipher.forward cipher.now ≡ f → bytes.new ≡ mapped f bytes.old }
+    ensures blocks { (f : ℕ → ℕ) → C.forward cipher.now ≡ f → bytes.new ≡ mapped f bytes.old }
 {
     let count = bytes.len() / 16;
     for i in 0..count {

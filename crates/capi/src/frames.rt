@@ -20,7 +20,7 @@ fn seal_with<C: Cipher, M: Masking>(
     message: &[u8],
     out: &mut [u8],
 ) -> u64
-    ensures { (w : Maps) → maps_of forward backward onward inward pair.now ≡ w → FrameSealed w sender number mode clear.now message.now out.old out.new result }
+    ensures { (w : Maps) → maps_of C.forward C.backward M.onward M.inward pair.now ≡ w → FrameSealed w sender number mode clear.now message.now out.old out.new result }
 {
     frame_code(frame::seal(pair, sender, number, mode, clear, message, out))
 }
@@ -77,7 +77,7 @@ pub extern "C" fn sealed_frames_seal(
 
 // Opens over any pair.
 fn open_with<C: Cipher, M: Masking>(pair: &Pair<C, M>, frame: &[u8], out: &mut [u8]) -> u64
-    ensures { (w : Maps) → maps_of forward backward onward inward pair.now ≡ w → FrameOpened w frame.now out.old out.new result }
+    ensures { (w : Maps) → maps_of C.forward C.backward M.onward M.inward pair.now ≡ w → FrameOpened w frame.now out.old out.new result }
 {
     frame_code(frame::open(pair, frame, out))
 }

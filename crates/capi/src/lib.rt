@@ -111,14 +111,14 @@ fn key_of(bytes: &[u8]) -> [u8; 16]
 
 // AES-128 with a masking.
 fn with_aes<M: Masking>(key: [u8; 16], masking: M) -> Pair<Aes128, M>
-    ensures { maps_of aes_forward aes_backward onward inward result ≡ aes_under key (onward masking) (inward masking) }
+    ensures { maps_of aes_forward aes_backward M.onward M.inward result ≡ aes_under key (M.onward masking) (M.inward masking) }
 {
     Pair::new(Aes128::new(key), masking)
 }
 
 // Speck128/128 with a masking.
 fn with_speck<M: Masking>(key: [u8; 16], masking: M) -> Pair<Speck, M>
-    ensures { maps_of speck_forward speck_backward onward inward result ≡ speck_under key (onward masking) (inward masking) }
+    ensures { maps_of speck_forward speck_backward M.onward M.inward result ≡ speck_under key (M.onward masking) (M.inward masking) }
 {
     Pair::new(Speck::new(key), masking)
 }

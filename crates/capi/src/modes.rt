@@ -39,7 +39,7 @@ fn seal_with<C: Cipher, M: Masking>(
     tag: &mut [u8],
 ) -> u64
     requires { length tag.old ≡ 16 }
-    ensures { (w : Maps) → maps_of forward backward onward inward pair.now ≡ w → ModeSealed w mode nonce.now header.now message.now out.old out.new tag.old tag.new result }
+    ensures { (w : Maps) → maps_of C.forward C.backward M.onward M.inward pair.now ≡ w → ModeSealed w mode nonce.now header.now message.now out.old out.new tag.old tag.new result }
 {
     match pair.seal(mode, load(nonce, 0), header, message, out) {
         Ok(block) => {
@@ -106,7 +106,7 @@ fn open_with<C: Cipher, M: Masking>(
     tag: &[u8],
     out: &mut [u8],
 ) -> u64
-    ensures { (w : Maps) → maps_of forward backward onward inward pair.now ≡ w → ModeOpened w mode nonce.now header.now sealed.now tag.now out.old out.new result }
+    ensures { (w : Maps) → maps_of C.forward C.backward M.onward M.inward pair.now ≡ w → ModeOpened w mode nonce.now header.now sealed.now tag.now out.old out.new result }
 {
     match pair.open(mode, load(nonce, 0), header, sealed, load(tag, 0), out) {
         Ok(_) => sealed.len() as u64,

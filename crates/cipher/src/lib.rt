@@ -51,11 +51,11 @@ pub struct Inverse<C> {
 }
 
 impl<C: Cipher> Cipher for Inverse<C> {
-    ghost forward = { λ c. C.Cipher.backward c.inner };
+    ghost forward = { λ c. C.backward c.inner };
 
-    ghost backward = { λ c. C.Cipher.forward c.inner };
+    ghost backward = { λ c. C.forward c.inner };
 
-    ghost laws = { λ c. undo_swap (C.Cipher.forward c.inner) (C.Cipher.backward c.inner) (C.Cipher.laws c.inner) };
+    ghost laws = { λ c. undo_swap (C.forward c.inner) (C.backward c.inner) (C.laws c.inner) };
 
     fn encrypt(&self, block: Block) -> Block {
         self.inner.decrypt(block)
@@ -68,7 +68,7 @@ impl<C: Cipher> Cipher for Inverse<C> {
 
 // The block that was encrypted.
 fn undo<C: Cipher>(cipher: &C, encrypted: Block) -> Block
-    ensures { (x : ℕ) → IsBlock x → encrypted ≡ C.Cipher.forward cipher.now x → result ≡ x }
+    ensures { (x : ℕ) → IsBlock x → encrypted ≡ C.forward cipher.now x → result ≡ x }
 {
     cipher.decrypt(encrypted)
 }

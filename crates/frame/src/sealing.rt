@@ -83,8 +83,8 @@ fn write_frame<C: Cipher, M: Masking>(
     requires clear_short { length clear.now ≤ 1024 }
     requires message_short { length message.now ≤ 1024 }
     requires room { 48 + length clear.now + length message.now ≤ length out.old }
-    ensures gives { (m : ℕ) → m ≡ mode_value mode → FrameSeals (maps_of forward backward onward inward pair.now) sender number m clear.now message.now out.old out.new result }
-    ensures seals { SealsFrame (maps_of forward backward onward inward pair.now) sender number clear.now message.now out.new result }
+    ensures gives { (m : ℕ) → m ≡ mode_value mode → FrameSeals (maps_of C.forward C.backward M.onward M.inward pair.now) sender number m clear.now message.now out.old out.new result }
+    ensures seals { SealsFrame (maps_of C.forward C.backward M.onward M.inward pair.now) sender number clear.now message.now out.new result }
 {
     let sealed_at = 32 + clear.len();
     let tag_at = sealed_at + message.len();
@@ -106,8 +106,8 @@ pub fn seal<C: Cipher, M: Masking>(
     message: &[u8],
     out: &mut [u8],
 ) -> Result<usize, FrameFault>
-    ensures gives { FrameSeals (maps_of forward backward onward inward pair.now) sender number mode clear.now message.now out.old out.new result }
-    ensures seals { SealsFrame (maps_of forward backward onward inward pair.now) sender number clear.now message.now out.new result }
+    ensures gives { FrameSeals (maps_of C.forward C.backward M.onward M.inward pair.now) sender number mode clear.now message.now out.old out.new result }
+    ensures seals { SealsFrame (maps_of C.forward C.backward M.onward M.inward pair.now) sender number clear.now message.now out.new result }
 {
     let Some(mode) = Mode::of(mode) else {
         return Err(FrameFault::UnknownMode);
@@ -133,7 +133,7 @@ impl FrameParts<'_> {
         tag: Block,
         out: &mut [u8],
     ) -> Result<(), ModeFault>
-        ensures { OpenGives (maps_of forward backward onward inward pair.now) self.entry.mode nonce self.entry.header.now self.entry.sealed.bytes.now tag out.old out.new result }
+        ensures { OpenGives (maps_of C.forward C.backward M.onward M.inward pair.now) self.entry.mode nonce self.entry.header.now self.entry.sealed.bytes.now tag out.old out.new result }
     {
         pair.open(self.mode, nonce, self.header, self.sealed.bytes, tag, out)
     }
@@ -145,7 +145,7 @@ impl FrameParts<'_> {
         out: &mut [u8],
     ) -> Result<usize, FrameFault>
         requires { length self.sealed.bytes.now ≤ length out.old }
-        ensures { PartsOpen (maps_of forward backward onward inward pair.now) self.entry out.old out.new result }
+        ensures { PartsOpen (maps_of C.forward C.backward M.onward M.inward pair.now) self.entry out.old out.new result }
     {
         let len = self.sealed.bytes.len();
         let nonce = load(self.header, 16);
@@ -160,7 +160,7 @@ impl FrameParts<'_> {
         pair: &Pair<C, M>,
         out: &mut [u8],
     ) -> Result<usize, FrameFault>
-        ensures { PartsOpen (maps_of forward backward onward inward pair.now) self.entry out.old out.new result }
+        ensures { PartsOpen (maps_of C.forward C.backward M.onward M.inward pair.now) self.entry out.old out.new result }
     {
         if out.len() < self.sealed.bytes.len() {
             return Err(FrameFault::OutputShort);
@@ -174,7 +174,7 @@ impl FrameParts<'_> {
         pair: &Pair<C, M>,
         out: &mut [u8],
     ) -> Result<usize, FrameFault>
-        ensures { (f : List ℕ) → PartsOf f self.entry → FrameOpens (maps_of forward backward onward inward pair.now) f out.old out.new result }
+        ensures { (f : List ℕ) → PartsOf f self.entry → FrameOpens (maps_of C.forward C.backward M.onward M.inward pair.now) f out.old out.new result }
     {
         self.open(pair, out)
     }
@@ -186,7 +186,7 @@ pub fn open<C: Cipher, M: Masking>(
     frame: &[u8],
     out: &mut [u8],
 ) -> Result<usize, FrameFault>
-    ensures { FrameOpens (maps_of forward backward onward inward pair.now) frame.now out.old out.new result }
+    ensures { FrameOpens (maps_of C.forward C.backward M.onward M.inward pair.now) frame.now out.old out.new result }
 {
     parts(frame)?.open_frame(pair, out)
 }

@@ -83,7 +83,7 @@ impl Masking for Doubling {
 
 // The block that a step came from.
 fn undo<M: Masking>(masking: &M, stepped: Block) -> Block
-    ensures { (x : ℕ) → IsBlock x → stepped ≡ M.Masking.onward masking.now x → result ≡ x }
+    ensures { (x : ℕ) → IsBlock x → stepped ≡ M.onward masking.now x → result ≡ x }
 {
     masking.back(stepped)
 }
@@ -98,8 +98,8 @@ pub fn there_and_back<M: Masking>(masking: &M, block: Block) -> Block
 // Goes so many steps, or backs where i is negative. As the laws have it, i steps and j more are i + j.
 fn walk<M: Masking>(masking: &M, block: Block, i: i64, count: u64) -> Block
     requires { count ≡ unsigned_abs i }
-    ensures reached { result ≡ Γ (M.Masking.onward masking.now) (M.Masking.inward masking.now) block i }
-    ensures add { StepsAdd (M.Masking.onward masking.now) (M.Masking.inward masking.now) }
+    ensures reached { result ≡ Γ (M.onward masking.now) (M.inward masking.now) block i }
+    ensures add { StepsAdd (M.onward masking.now) (M.inward masking.now) }
 {
     let mut reached = block;
     for _ in 0..count {
@@ -114,8 +114,8 @@ fn walk<M: Masking>(masking: &M, block: Block, i: i64, count: u64) -> Block
 
 // A block after i steps, or after -i backs where i is negative; and that such steps add up.
 pub fn steps<M: Masking>(masking: &M, block: Block, i: i64) -> Block
-    ensures reached { result ≡ Γ (M.Masking.onward masking.now) (M.Masking.inward masking.now) block i }
-    ensures add { StepsAdd (M.Masking.onward masking.now) (M.Masking.inward masking.now) }
+    ensures reached { result ≡ Γ (M.onward masking.now) (M.inward masking.now) block i }
+    ensures add { StepsAdd (M.onward masking.now) (M.inward masking.now) }
 {
     walk(masking, block, i, i.unsigned_abs())
 }

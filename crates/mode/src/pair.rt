@@ -56,14 +56,14 @@ impl<C: Cipher, M: Masking> Pair<C, M> {
     // A pair of the two. What the modes promise stands for every cipher and every masking that keep their laws.
     pub fn new(cipher: C, masking: M) -> Pair<C, M>
         ensures held { (result.cipher ≡ cipher) × (result.masking ≡ masking) }
-        ensures stands { Stands (maps_of forward backward onward inward result) }
+        ensures stands { Stands (maps_of C.forward C.backward M.onward M.inward result) }
     {
         Pair { cipher, masking }
     }
 
     // A block through the mode's map.
     fn sealing(&self, mode: Mode, block: Block) -> Block
-        ensures { result ≡ sealing (maps_of forward backward onward inward self.now) mode block }
+        ensures { result ≡ sealing (maps_of C.forward C.backward M.onward M.inward self.now) mode block }
     {
         match mode {
             Mode::Forward => self.cipher.encrypt(block),
@@ -73,15 +73,15 @@ impl<C: Cipher, M: Masking> Pair<C, M> {
 
     // The cipher's block of the fixed string.
     fn delta_zero(&self) -> Block
-        ensures { result ≡ delta_zero_of (maps_of forward backward onward inward self.now) }
+        ensures { result ≡ delta_zero_of (maps_of C.forward C.backward M.onward M.inward self.now) }
     {
         self.cipher.encrypt(FIXED)
     }
 
     // One step from it.
     fn delta_one(&self, delta_zero: Block) -> Block
-        requires { delta_zero ≡ delta_zero_of (maps_of forward backward onward inward self.now) }
-        ensures { result ≡ delta_one_of (maps_of forward backward onward inward self.now) }
+        requires { delta_zero ≡ delta_zero_of (maps_of C.forward C.backward M.onward M.inward self.now) }
+        ensures { result ≡ delta_one_of (maps_of C.forward C.backward M.onward M.inward self.now) }
     {
         self.masking.step(delta_zero)
     }
@@ -96,7 +96,7 @@ impl<C: Cipher, M: Masking> Pair<C, M> {
         out: &mut [u8],
     ) -> (Block, Block)
         ensures read { result.0 ≡ block_at at input.now }
-        ensures written { result.1 ≡ bit_xor (sealing (maps_of forward backward onward inward self.now) mode (bit_xor result.0 mask)) mask }
+        ensures written { result.1 ≡ bit_xor (sealing (maps_of C.forward C.backward M.onward M.inward self.now) mode (bit_xor result.0 mask)) mask }
         ensures stored { out.new ≡ stored_at at result.1 out.old }
     {
         let x = load(input, at);
@@ -114,7 +114,7 @@ impl<C: Cipher, M: Masking> Pair<C, M> {
         out: &mut [u8],
     ) -> (Block, Block, Block)
         requires { length out.old ≡ length input.now }
-        ensures { BlocksDone (maps_of forward backward onward inward self.now) mode gamma (before (length input.now)) input.now out.old out.new result.0 result.1 result.2 }
+        ensures { BlocksDone (maps_of C.forward C.backward M.onward M.inward self.now) mode gamma (before (length input.now)) input.now out.old out.new result.0 result.1 result.2 }
     {
         let n = Cut::of(input.len()).before;
         let mut mask = gamma;
@@ -131,7 +131,7 @@ impl<C: Cipher, M: Masking> Pair<C, M> {
 
     // The pad of a last block, from the number of its bits.
     fn pad(&self, cut: Cut, mask: Block) -> Block
-        ensures { result ≡ forward self.now.cipher (bit_xor cut.bits mask) }
+        ensures { result ≡ C.forward self.now.cipher (bit_xor cut.bits mask) }
     {
         self.cipher.encrypt(cut.bits as Block ^ mask)
     }
@@ -145,8 +145,8 @@ impl<C: Cipher, M: Masking> Pair<C, M> {
         input: &[u8],
         out: &mut [u8],
     ) -> Body
-        requires { (delta_one ≡ delta_one_of (maps_of forward backward onward inward self.now)) × (length out.old ≡ length input.now) }
-        ensures { BodyDone (maps_of forward backward onward inward self.now) mode nonce input.now out.new result.read result.written result.mask result.pad }
+        requires { (delta_one ≡ delta_one_of (maps_of C.forward C.backward M.onward M.inward self.now)) × (length out.old ≡ length input.now) }
+        ensures { BodyDone (maps_of C.forward C.backward M.onward M.inward self.now) mode nonce input.now out.new result.read result.written result.mask result.pad }
     {
         let gamma = self.cipher.encrypt(nonce ^ delta_one);
         let (read, written, last) = self.cipher_blocks(mode, gamma, input, out);
@@ -166,7 +166,7 @@ impl<C: Cipher, M: Masking> Pair<C, M> {
     // The message tag, from the sum of the message's blocks before the last and the last sealed piece.
     fn tag_from(&self, delta_one: Block, mask: Block, pad: Block, sum: Block, piece: &[u8]) -> Block
         requires { length piece.now ≤ 16 }
-        ensures { result ≡ forward self.now.cipher (bit_xor (bit_xor (bit_xor (bit_xor sum (fill_with 0 piece.now)) (onward self.now.masking mask)) delta_one) pad) }
+        ensures { result ≡ C.forward self.now.cipher (bit_xor (bit_xor (bit_xor (bit_xor sum (fill_with 0 piece.now)) (M.onward self.now.masking mask)) delta_one) pad) }
     {
         let block = fill(0, piece);
         self.cipher
@@ -175,8 +175,8 @@ impl<C: Cipher, M: Masking> Pair<C, M> {
 
     // What is added to the last block of a header, after n blocks with the mask of the last of them.
     fn closing(&self, n: usize, full: bool, kappa: Block, mask: Block) -> Block
-        requires { (kappa ≡ kappa_of (maps_of forward backward onward inward self.now)) × (mask ≡ times (onward self.now.masking) n kappa) }
-        ensures { result ≡ closing (maps_of forward backward onward inward self.now) n full }
+        requires { (kappa ≡ kappa_of (maps_of C.forward C.backward M.onward M.inward self.now)) × (mask ≡ times (M.onward self.now.masking) n kappa) }
+        ensures { result ≡ closing (maps_of C.forward C.backward M.onward M.inward self.now) n full }
     {
         if n == 0 {
             let once = self.masking.back(kappa);
@@ -190,15 +190,15 @@ impl<C: Cipher, M: Masking> Pair<C, M> {
 
     // Where the masks of a header begin.
     fn kappa(&self, delta_zero: Block) -> Block
-        ensures { result ≡ forward self.now.cipher delta_zero }
+        ensures { result ≡ C.forward self.now.cipher delta_zero }
     {
         self.cipher.encrypt(delta_zero)
     }
 
     // The tag of a header, where the cipher's block of the fixed string is known.
     fn header_tag_from(&self, delta_zero: Block, header: &[u8]) -> Block
-        requires { delta_zero ≡ delta_zero_of (maps_of forward backward onward inward self.now) }
-        ensures { result ≡ header_tag_of (maps_of forward backward onward inward self.now) header.now }
+        requires { delta_zero ≡ delta_zero_of (maps_of C.forward C.backward M.onward M.inward self.now) }
+        ensures { result ≡ header_tag_of (maps_of C.forward C.backward M.onward M.inward self.now) header.now }
     {
         if header.len() == 0 {
             return 0;
@@ -220,7 +220,7 @@ impl<C: Cipher, M: Masking> Pair<C, M> {
 
     // The tag of a header.
     pub fn header_tag(&self, header: &[u8]) -> Block
-        ensures { result ≡ header_tag_of (maps_of forward backward onward inward self.now) header.now }
+        ensures { result ≡ header_tag_of (maps_of C.forward C.backward M.onward M.inward self.now) header.now }
     {
         self.header_tag_from(self.delta_zero(), header)
     }
@@ -234,17 +234,17 @@ impl<C: Cipher, M: Masking> Pair<C, M> {
         message: &[u8],
         out: &mut [u8],
     ) -> Body
-        requires { (delta_one ≡ delta_one_of (maps_of forward backward onward inward self.now)) × (length out.old ≡ length message.now) }
-        ensures done { BodyDone (maps_of forward backward onward inward self.now) mode nonce message.now out.new result.read result.written result.mask result.pad }
-        ensures bytes { out.new ≡ sealed_bytes (maps_of forward backward onward inward self.now) mode nonce message.now }
+        requires { (delta_one ≡ delta_one_of (maps_of C.forward C.backward M.onward M.inward self.now)) × (length out.old ≡ length message.now) }
+        ensures done { BodyDone (maps_of C.forward C.backward M.onward M.inward self.now) mode nonce message.now out.new result.read result.written result.mask result.pad }
+        ensures bytes { out.new ≡ sealed_bytes (maps_of C.forward C.backward M.onward M.inward self.now) mode nonce message.now }
     {
         self.cipher_body(mode, delta_one, nonce, message, out)
     }
 
     // The message tag, from what the body left and the sealed bytes.
     fn message_tag(&self, delta_one: Block, body: Body, sealed: &[u8]) -> Block
-        requires { delta_one ≡ delta_one_of (maps_of forward backward onward inward self.now) }
-        ensures { (mode : Mode) (nonce : ℕ) (message : List ℕ) → BodyDone (maps_of forward backward onward inward self.now) mode nonce message sealed.now body.read body.written body.mask body.pad → result ≡ message_tag_of (maps_of forward backward onward inward self.now) nonce message }
+        requires { delta_one ≡ delta_one_of (maps_of C.forward C.backward M.onward M.inward self.now) }
+        ensures { (mode : Mode) (nonce : ℕ) (message : List ℕ) → BodyDone (maps_of C.forward C.backward M.onward M.inward self.now) mode nonce message sealed.now body.read body.written body.mask body.pad → result ≡ message_tag_of (maps_of C.forward C.backward M.onward M.inward self.now) nonce message }
     {
         let at = Cut::of(sealed.len()).at;
         self.tag_from(delta_one, body.mask, body.pad, body.read, &sealed[at..])
@@ -259,9 +259,9 @@ impl<C: Cipher, M: Masking> Pair<C, M> {
         message: &[u8],
         out: &mut [u8],
     ) -> Block
-        requires { (delta_one ≡ delta_one_of (maps_of forward backward onward inward self.now)) × (length out.old ≡ length message.now) }
-        ensures bytes { out.new ≡ sealed_bytes (maps_of forward backward onward inward self.now) mode nonce message.now }
-        ensures tag { result ≡ message_tag_of (maps_of forward backward onward inward self.now) nonce message.now }
+        requires { (delta_one ≡ delta_one_of (maps_of C.forward C.backward M.onward M.inward self.now)) × (length out.old ≡ length message.now) }
+        ensures bytes { out.new ≡ sealed_bytes (maps_of C.forward C.backward M.onward M.inward self.now) mode nonce message.now }
+        ensures tag { result ≡ message_tag_of (maps_of C.forward C.backward M.onward M.inward self.now) nonce message.now }
     {
         let body = self.seal_bytes(mode, delta_one, nonce, message, out);
         self.message_tag(delta_one, body, out)
@@ -277,7 +277,7 @@ impl<C: Cipher, M: Masking> Pair<C, M> {
         out: &mut [u8],
     ) -> Block
         requires { length out.old ≡ length message.now }
-        ensures { Seals (maps_of forward backward onward inward self.now) mode nonce header.now message.now out.new result }
+        ensures { Seals (maps_of C.forward C.backward M.onward M.inward self.now) mode nonce header.now message.now out.new result }
     {
         let delta_zero = self.delta_zero();
         let delta_one = self.delta_one(delta_zero);
@@ -294,7 +294,7 @@ impl<C: Cipher, M: Masking> Pair<C, M> {
         message: &[u8],
         out: &mut [u8],
     ) -> Result<Block, ModeFault>
-        ensures { SealGives (maps_of forward backward onward inward self.now) mode nonce header.now message.now out.old out.new result }
+        ensures { SealGives (maps_of C.forward C.backward M.onward M.inward self.now) mode nonce header.now message.now out.old out.new result }
     {
         if out.len() != message.len() {
             return Err(ModeFault::OutputLength);
@@ -312,7 +312,7 @@ impl<C: Cipher, M: Masking> Pair<C, M> {
         buf: &mut [u8],
     ) -> Block
         requires { length buf.old ≡ header_len + length message.now }
-        ensures { Behind (maps_of forward backward onward inward self.now) mode nonce header_len message.now buf.old buf.new result }
+        ensures { Behind (maps_of C.forward C.backward M.onward M.inward self.now) mode nonce header_len message.now buf.old buf.new result }
     {
         let delta_zero = self.delta_zero();
         let delta_one = self.delta_one(delta_zero);
@@ -330,7 +330,7 @@ impl<C: Cipher, M: Masking> Pair<C, M> {
         message: &[u8],
         buf: &mut [u8],
     ) -> Result<Block, ModeFault>
-        ensures { BehindGives (maps_of forward backward onward inward self.now) mode nonce header_len message.now buf.old buf.new result }
+        ensures { BehindGives (maps_of C.forward C.backward M.onward M.inward self.now) mode nonce header_len message.now buf.old buf.new result }
     {
         if header_len > buf.len() || buf.len() - header_len != message.len() {
             return Err(ModeFault::OutputLength);
@@ -349,7 +349,7 @@ impl<C: Cipher, M: Masking> Pair<C, M> {
         out: &mut [u8],
     ) -> bool
         requires { length out.old ≡ length sealed.now }
-        ensures { Decided (maps_of forward backward onward inward self.now) mode nonce header.now sealed.now tag out.new result }
+        ensures { Decided (maps_of C.forward C.backward M.onward M.inward self.now) mode nonce header.now sealed.now tag out.new result }
     {
         let delta_zero = self.delta_zero();
         let delta_one = self.delta_one(delta_zero);
@@ -370,7 +370,7 @@ impl<C: Cipher, M: Masking> Pair<C, M> {
         tag: Block,
         out: &mut [u8],
     ) -> Result<(), ModeFault>
-        ensures { OpenGives (maps_of forward backward onward inward self.now) mode nonce header.now sealed.now tag out.old out.new result }
+        ensures { OpenGives (maps_of C.forward C.backward M.onward M.inward self.now) mode nonce header.now sealed.now tag out.old out.new result }
     {
         if out.len() != sealed.len() {
             return Err(ModeFault::OutputLength);

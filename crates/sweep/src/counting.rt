@@ -11,11 +11,11 @@ pub struct Counting<'c, 'n, C> {
 }
 
 impl<'c, 'n, C: Cipher> Cipher for Counting<'c, 'n, C> {
-    ghost forward = { λ c. C.Cipher.forward c.inner.now };
+    ghost forward = { λ c. C.forward c.inner.now };
 
-    ghost backward = { λ c. C.Cipher.backward c.inner.now };
+    ghost backward = { λ c. C.backward c.inner.now };
 
-    ghost laws = { λ c. C.Cipher.laws c.inner.now };
+    ghost laws = { λ c. C.laws c.inner.now };
 
     fn encrypt(&self, block: Block) -> Block {
         self.calls.set(self.calls.get().wrapping_add(1));

@@ -63,7 +63,7 @@ impl<C: Cipher, M: Masking> Station<C, M> {
         C: Drop,
         M: Drop,
         ensures founds { Founds pair own peer start floor result }
-        ensures lasts { Lasts (maps_of C.Cipher.forward C.Cipher.backward M.Masking.onward M.Masking.inward) pair peer floor result }
+        ensures lasts { Lasts (maps_of C.forward C.backward M.onward M.inward) pair peer floor result }
     {
         Station::fresh(pair, own, peer, start, floor)
     }
@@ -81,14 +81,14 @@ impl<C: Cipher, M: Masking> Station<C, M> {
         C: Drop,
         M: Drop,
         ensures founds { Founds pair own peer start floor result }
-        ensures lasts { Lasts (maps_of C.Cipher.forward C.Cipher.backward M.Masking.onward M.Masking.inward) pair peer floor result }
+        ensures lasts { Lasts (maps_of C.forward C.backward M.onward M.inward) pair peer floor result }
     {
         Station::lawful(pair, own, peer, start, floor)
     }
 
     // Hands out the next number on a ticket. A number that is still out is written off.
     pub fn reserve(&mut self) -> Result<Ticket, StationFault>
-        ensures { Step (maps_of C.Cipher.forward C.Cipher.backward M.Masking.onward M.Masking.inward) self.old (Reserve result) self.new }
+        ensures { Step (maps_of C.forward C.backward M.onward M.inward) self.old (Reserve result) self.new }
     {
         if self.next > LAST {
             return Err(StationFault::Exhausted);
@@ -132,7 +132,7 @@ impl<C: Cipher, M: Masking> Station<C, M> {
 
     // Writes off the number of a ticket.
     pub fn give_up(&mut self, ticket: Ticket) -> Result<(), StationFault>
-        ensures { Step (maps_of C.Cipher.forward C.Cipher.backward M.Masking.onward M.Masking.inward) self.old (GiveUp ticket result) self.new }
+        ensures { Step (maps_of C.forward C.backward M.onward M.inward) self.old (GiveUp ticket result) self.new }
     {
         let _number = self.spend(ticket)?;
         self.settle(false);
@@ -148,7 +148,7 @@ impl<C: Cipher, M: Masking> Station<C, M> {
         message: &[u8],
         out: &mut [u8],
     ) -> Result<usize, StationFault>
-        ensures { Step (maps_of C.Cipher.forward C.Cipher.backward M.Masking.onward M.Masking.inward) self.old (Seal ticket mode clear.now message.now out.old out.new result) self.new }
+        ensures { Step (maps_of C.forward C.backward M.onward M.inward) self.old (Seal ticket mode clear.now message.now out.old out.new result) self.new }
     {
         let number = self.spend(ticket)?;
         let answer = frame::seal(&self.pair, self.own, number, mode, clear, message, out);
@@ -180,7 +180,7 @@ impl<C: Cipher, M: Masking> Station<C, M> {
 
     // Opens over the parts of any frame that fits.
     fn open_parts(&mut self, parts: FrameParts<'_>, out: &mut [u8]) -> Result<Opened, StationFault>
-        ensures { (f : List ℕ) → PartsOf f parts.entry → Fit self.old f → Step (maps_of C.Cipher.forward C.Cipher.backward M.Masking.onward M.Masking.inward) self.old (Open f out.old out.new result) self.new }
+        ensures { (f : List ℕ) → PartsOf f parts.entry → Fit self.old f → Step (maps_of C.forward C.backward M.onward M.inward) self.old (Open f out.old out.new result) self.new }
     {
         let number = parts.number;
         let length = parts.open(&self.pair, out)?;
@@ -190,7 +190,7 @@ impl<C: Cipher, M: Masking> Station<C, M> {
 
     // Opens a frame of the peer, with a number above the highest, into the output's start.
     pub fn open(&mut self, frame: &[u8], out: &mut [u8]) -> Result<Opened, StationFault>
-        ensures { Step (maps_of C.Cipher.forward C.Cipher.backward M.Masking.onward M.Masking.inward) self.old (Open frame.now out.old out.new result) self.new }
+        ensures { Step (maps_of C.forward C.backward M.onward M.inward) self.old (Open frame.now out.old out.new result) self.new }
     {
         let parts = self.fit(frame)?;
         self.open_parts(parts, out)

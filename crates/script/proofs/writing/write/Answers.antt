@@ -13,11 +13,11 @@ returns-in-Reserve c = let why = ap call_line c.in-Reserve.is in search rules
 pub returns-in-GiveUp : goal.returns-in-GiveUp
 returns-in-GiveUp c = let why = ap call_line c.in-GiveUp.is in search rules
 
-pub returns-in_ok-message : goal.returns-in_ok-message
-returns-in_ok-message c =
+pub returns-in_ok-message-in-Seal : goal.returns-in_ok-message-in-Seal
+returns-in_ok-message-in-Seal c =
     let why = ap call_line c.in-Seal.is in
     let clear = ap hex_text_of c.as_slice.ensures.value in
     let message = ap hex_text_of c.as_slice-in-Seal.ensures.value in search rules
 
-pub returns-in_ok-frame : goal.returns-in_ok-frame
-returns-in_ok-frame c = let why = ap call_line c.in-Open.is in search rules
+pub returns-in_ok-frame-in-Open : goal.returns-in_ok-frame-in-Open
+returns-in_ok-frame-in-Open c = let why = ap call_line c.in-Open.is in search rules
