@@ -1,5 +1,5 @@
 -- What the round keys that the code holds come to.
-use Rattle.std.proofs.Common.{◌≡◌, ℕ, zero, suc, ◌+◌, ◌<◌, List, [], ◌∷◌, length, get_or, set, sym, refl, ap, ◌∙◌, ap₂}
+use Rattle.std.proofs.Common.{◌≡◌, ℕ, zero, suc, List, [], ◌∷◌, length, get_or, set, refl, ap}
 use Rattle.aes.specs.State.{State}
 use Rattle.aes.specs.RoundKeys.{cells_of}
 use Rattle.aes.specs.declared.round.Round.{Round}

@@ -1,5 +1,5 @@
 -- A state on its way through the rounds of the cipher, and of the inverse cipher.
-use Rattle.std.proofs.Common.{◌≡◌, ℕ, zero, suc, ◌+◌, ◌-◌, ◌<◌, ◌≤◌, List, [], get_or, sym, refl, ap, ◌∙◌, subst, ap₂, add-one, arith}
+use Rattle.std.proofs.Common.{◌≡◌, ℕ, zero, suc, ◌+◌, ◌-◌, ◌<◌, ◌≤◌, List, [], get_or, sym, refl, ap, ◌∙◌, ap₂, add-one, arith}
 use Rattle.aes.specs.State.{State}
 use Rattle.aes.specs.Steps.{sub_bytes_of, inv_sub_bytes_of, shift_rows_of, inv_shift_rows_of, mix_columns_of, inv_mix_columns_of, add_round_key_of}
 use Rattle.aes.specs.Cipher.{round, last_round, up_to, enciphered, inv_round_of, inv_last_round, down_from, deciphered}

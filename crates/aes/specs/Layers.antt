@@ -1,11 +1,10 @@
 -- The four steps of a round undo their ways back, on every state of bytes.
 use Rattle.std.specs.Prelude.{◌≡◌, ℕ, ◌^◌, ◌<◌, List, [], ◌∷◌, slice_index, slice_index_or, refl}
 use Rattle.std.proofs.Common.{ap, ◌∙◌}
-use Rattle.std.specs.Int.Bits.{bit_xor}
 use Rattle.std.proofs.lemmas.Nat.{xor_lt}
 use Rattle.block.specs.Maps.{Undo}
 use Rattle.block.specs.Xor.{xor-twice}
-use Rattle.gf256.specs.Column.{coefficient, mixing, mixing_back}
+use Rattle.gf256.specs.Column.{mixing, mixing_back}
 use Rattle.gf256.specs.ColumnLaws.{AllBytes, twice, coefficient_fits, unmix_mix, mix_unmix}
 use Rattle.gf256.specs.Substitution.{substituted, restored}
 use Rattle.gf256.specs.SubstitutionLaws.{substitution_undo}

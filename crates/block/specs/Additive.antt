@@ -1,9 +1,9 @@
 -- Doubling keeps sums by digits; and two maps that keep them agree if they agree at the powers of two.
-use Rattle.std.specs.Prelude.{◌≡◌, ℕ, zero, suc, ◌+◌, ◌-◌, ◌*◌, ◌/◌, ◌%◌, ◌^◌, ◌<◌, ◌≤◌, refl}
-use Rattle.std.proofs.Common.{sym, ap, ap₂, subst, ◌∙◌, ⊎_elim, mul-zero, mul-one, pow-suc, le_of_suc-le-suc, not-suc-le-zero, arith, pow_pos}
-use Rattle.std.specs.Int.Bits.{bit_xor, xor_shifted, xor_zero_r, xor_self, xor_assoc}
+use Rattle.std.specs.Prelude.{◌≡◌, ℕ, zero, suc, ◌+◌, ◌-◌, ◌*◌, ◌/◌, ◌%◌, ◌^◌, ◌<◌}
+use Rattle.std.proofs.Common.{sym, ap, ap₂, subst, ◌∙◌, ⊎_elim, mul-zero, pow-suc, le_of_suc-le-suc, not-suc-le-zero, arith, pow_pos}
+use Rattle.std.specs.Int.Bits.{bit_xor, xor_shifted, xor_zero_r, xor_self}
 use Rattle.std.proofs.lemmas.Bool.{cases_lt}
-use Rattle.std.proofs.lemmas.Nat.{shr_below, xor_mod, xor_shr, xor_block, xor_comm}
+use Rattle.std.proofs.lemmas.Nat.{shr_below, xor_mod, xor_shr, xor_block}
 use Rattle.block.specs.Double.{double}
 use Rattle.block.specs.Xor.{xor-four}
 

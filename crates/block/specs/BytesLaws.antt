@@ -1,8 +1,8 @@
 -- Laws of bytes, and of the numbers that they spell.
 use Rattle.std.specs.Prelude.{◌≡◌, ℕ, zero, suc, ◌+◌, ◌-◌, ◌*◌, ◌/◌, ◌%◌, ◌^◌, ◌<◌, ◌≤◌, List, [], ◌∷◌, ◌++◌, length, take, drop, replicate, bit_xor, slice_index, refl}
-use Rattle.std.proofs.Common.{sym, ap, ap₂, subst, ◌∙◌, pow-suc, div-one, mod-lt, mod-eq_of_lt, mul_assoc, mul_comm, add-mul, lt_of_lt_of_le, zero-mul, zero-add, arith, length-take, pow-add}
-use Rattle.std.proofs.Math.Nat.{pow-succ', mod-one, mul-add-div_right, pow-le-pow_right}
-use Rattle.std.proofs.Math.Arith.{mod-mul, digits_lt, digits_div, digits_mod}
+use Rattle.std.proofs.Common.{sym, ap, ap₂, ◌∙◌, mod-eq_of_lt, mul_assoc, add-mul, lt_of_lt_of_le, arith, length-take, pow-add}
+use Rattle.std.proofs.Math.Nat.{pow-succ', mod-one, pow-le-pow_right}
+use Rattle.std.proofs.Math.Arith.{mod-mul, digits_lt, digits_div}
 use Rattle.std.proofs.lemmas.Nat.{xor_lt, xor_shr, xor_mod}
 use Rattle.std.proofs.lemmas.List.{take_all}
 use Rattle.block.specs.Bytes.{Bytes, none, more, bytes_of, read_after, number_of, block_at, stored_at, xor_bytes}

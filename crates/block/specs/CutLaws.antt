@@ -1,12 +1,12 @@
 -- Laws of blocks, pieces, sums and fillings.
-use Rattle.std.specs.Prelude.{◌≡◌, ℕ, zero, suc, ◌+◌, ◌-◌, ◌*◌, ◌/◌, ◌%◌, ◌^◌, ◌<◌, ◌≤◌, ◌≢◌, ◌⊎◌, List, [], ◌∷◌, ◌++◌, length, take, drop, replicate, bit_xor, slice_index, refl}
+use Rattle.std.specs.Prelude.{◌≡◌, ℕ, zero, suc, ◌+◌, ◌-◌, ◌*◌, ◌/◌, ◌^◌, ◌<◌, ◌≤◌, ◌≢◌, ◌⊎◌, List, ◌∷◌, ◌++◌, length, take, drop, replicate, bit_xor, slice_index, refl}
 use Rattle.std.proofs.Common.{sym, ap, ap₂, subst, ◌∙◌, append_assoc, inl, inr, ⊎_elim, arith, length-drop, length-append, length-take, take-add, ext_get_or, get_or-take, get_or-drop}
 use Rattle.std.proofs.lemmas.Nat.{xor_lt}
 use Rattle.std.proofs.Math.Seq.{take-append-add, drop-append-add}
 use Rattle.std.proofs.lemmas.Bool.{cases_lt}
-use Rattle.std.proofs.lemmas.List.{take_at, drop_at, drop-drop, take-take, drop-take, take-append-drop, take-append-le, drop-append-le, length-take-le, drop_all, append-nil, append_cancel_left, length-replicate}
-use Rattle.block.specs.Bytes.{Bytes, none, more, bytes_of, number_of, read_after, block_at, xor_bytes}
-use Rattle.block.specs.BytesLaws.{length_bytes, number_bytes, bytes_read, read_fits, bytes_take, bytes_drop, bytes_append, bytes_replicate, bytes_of_lem, length-xor, number_same, at_most, short_fits, block_fits, take-xor, bytes_of_xor}
+use Rattle.std.proofs.lemmas.List.{take_at, drop_at, drop-drop, take-take, drop-take, take-append-drop, length-take-le, append_cancel_left}
+use Rattle.block.specs.Bytes.{Bytes, none, more, bytes_of, number_of, block_at, xor_bytes}
+use Rattle.block.specs.BytesLaws.{length_bytes, number_bytes, bytes_read, bytes_take, bytes_drop, bytes_append, bytes_replicate, bytes_of_lem, number_same, at_most, short_fits, block_fits, take-xor, bytes_of_xor}
 use Rattle.block.specs.Xor.{xor_cancel_right, xor_cancel_left}
 use Rattle.block.specs.Cut.{before, block_count, last_bits, last_of, fill_with, through, sum_of, OneBlock}
 

@@ -1,5 +1,5 @@
 -- Doubling in a field of 2 ^ (j + 1) elements, as arithmetic: shift left by one, and xor c if a one fell out.
-use Rattle.std.specs.Prelude.{◌≡◌, ℕ, suc, ◌+◌, ◌*◌, ◌/◌, ◌%◌, ◌^◌, bit_xor}
+use Rattle.std.specs.Prelude.{ℕ, suc, ◌+◌, ◌*◌, ◌/◌, ◌%◌, ◌^◌, bit_xor}
 
 unfoldable pub double : ℕ → ℕ → ℕ → ℕ
 double j c x = bit_xor ((x * 2) % 2 ^ suc j) (c * (x / 2 ^ j))

@@ -1,6 +1,6 @@
 -- One law for every width: halving undoes doubling, and doubling halving.
-use Rattle.std.specs.Prelude.{◌≡◌, ℕ, zero, suc, ◌+◌, ◌-◌, ◌*◌, ◌/◌, ◌%◌, ◌^◌, ◌<◌, ◌≤◌, ◌⊎◌, bit_xor, refl}
-use Rattle.std.proofs.Common.{sym, subst, ◌∙◌, inl, inr, ⊎_elim, pow-suc, mod-eq_of_lt}
+use Rattle.std.specs.Prelude.{◌≡◌, ℕ, suc, ◌+◌, ◌-◌, ◌*◌, ◌/◌, ◌%◌, ◌^◌, ◌<◌, bit_xor}
+use Rattle.std.proofs.Common.{subst, ◌∙◌, ⊎_elim, pow-suc, mod-eq_of_lt}
 use Rattle.std.proofs.Math.Path.{ap, ap₂}
 use Rattle.std.proofs.Math.Nat.{div-eq_of_lt, mul-zero, mul-one, add_comm}
 use native.Mathlib.Omega.{arith}

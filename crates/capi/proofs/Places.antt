@@ -1,5 +1,5 @@
 -- Blocks written over places of a string: the one that fills it, and one after another in place.
-use Rattle.std.proofs.Common.{◌≡◌, ℕ, zero, suc, ◌+◌, ◌*◌, ◌/◌, ◌≤◌, List, [], ◌∷◌, ◌++◌, length, take, drop, sym, refl, ap, ◌∙◌, ap₂, append_assoc, add-one, arith}
+use Rattle.std.proofs.Common.{◌≡◌, ℕ, ◌+◌, ◌*◌, ◌/◌, ◌≤◌, List, ◌++◌, length, take, drop, sym, refl, ap, ◌∙◌, ap₂, append_assoc, add-one, arith}
 use Rattle.std.proofs.lemmas.List.{append-nil, drop_all, take_at, drop_at, drop-drop}
 use Rattle.block.specs.Bytes.{number_of, bytes_of, block_at, stored_at}
 use Rattle.block.specs.BytesLaws.{stored_whole}

@@ -1,5 +1,5 @@
 -- What a frame is: its head, its parts, and which messages seal to it.
-use Rattle.std.specs.Prelude.{◌≡◌, ℕ, ◌+◌, ◌*◌, ◌≤◌, min, ◌≢◌, List, [], ◌∷◌, ◌++◌, length, take, drop, replicate}
+use Rattle.std.specs.Prelude.{◌≡◌, ℕ, ◌+◌, ◌*◌, ◌≤◌, min, ◌≢◌, List, ◌∷◌, ◌++◌, length, take, drop, replicate}
 use Rattle.block.specs.Bytes.{Bytes, bytes_of, number_of, block_at}
 use Rattle.mode.specs.declared.value.Mode.{Mode}
 use Rattle.mode.specs.Values.{mode_value}

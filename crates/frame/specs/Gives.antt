@@ -8,7 +8,7 @@ use Rattle.mode.specs.Sealing.{Maps, Seals}
 use Rattle.frame.specs.declared.fault.FrameFault.{FrameFault}
 use Rattle.frame.specs.declared.fault.FrameFault.TheVariants.{UnknownMode, ClearTooLong, MessageTooLong, OutputShort, FrameShort, BadField, FrameLength, Sealing}
 use Rattle.frame.specs.declared.pieces.FrameParts.{FrameParts}
-use Rattle.frame.specs.Fields.{mode_byte, clear_length, sealed_length, sealed_start, tag_start, sender_of, frame_number, AllHold, Breaks}
+use Rattle.frame.specs.Fields.{mode_byte, sealed_length, sealed_start, tag_start, sender_of, frame_number, AllHold, Breaks}
 use Rattle.frame.specs.Form.{frame_of, header_of, clear_part, sealed_part, tag_part, WellFormed, SealsTo, Neighbours}
 
 -- a mode's number

@@ -1,6 +1,6 @@
 -- Products keep sums and stay in the field; and the inverse is one.
-use Rattle.std.specs.Prelude.{◌≡◌, refl, Bool, true, ℕ, zero, suc, ◌*◌, ◌/◌, ◌%◌, ◌^◌, ◌<◌, T, eqb}
-use Rattle.std.proofs.Common.{ap, ap₂, ◌∙◌, mul_comm, arith, eqb→eq}
+use Rattle.std.specs.Prelude.{◌≡◌, refl, Bool, ℕ, zero, suc, ◌*◌, ◌/◌, ◌%◌, ◌^◌, ◌<◌, T, eqb}
+use Rattle.std.proofs.Common.{ap, ap₂, ◌∙◌, arith, eqb→eq}
 use Rattle.std.specs.Int.Bits.{bit_xor}
 use Rattle.std.proofs.lemmas.Nat.{xor_lt}
 use Rattle.block.specs.Double.{double}

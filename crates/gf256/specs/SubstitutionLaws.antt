@@ -1,5 +1,5 @@
 -- The substitution and its way back undo each other on bytes: a test at each byte.
-use Rattle.std.specs.Prelude.{◌≡◌, refl, Bool, true, ℕ, ◌<◌, ◌^◌, T, eqb, ltb}
+use Rattle.std.specs.Prelude.{◌≡◌, Bool, ℕ, ◌<◌, ◌^◌, T, eqb, ltb}
 use Rattle.std.proofs.Common.{eqb→eq, ltb→lt}
 use Rattle.gf256.specs.Field.{times, product, squares, inverse}
 use Rattle.gf256.specs.Substitution.{bit_map, bit_map_back, substituted, restored}

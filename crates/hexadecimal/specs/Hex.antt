@@ -1,5 +1,5 @@
 -- Hexadecimal digits, and the bytes that a text of them spells.
-use Rattle.std.specs.Prelude.{◌≡◌, ℕ, ◌+◌, ◌-◌, ◌*◌, ◌<◌, Bool, cond, ◌&&◌, List, length, Some, None, Option, nat_le, slice_index}
+use Rattle.std.specs.Prelude.{◌≡◌, ℕ, ◌+◌, ◌-◌, ◌*◌, ◌<◌, cond, ◌&&◌, List, length, Some, None, Option, nat_le, slice_index}
 
 -- the value of a digit's character: 0 to 9, A to F or a to f
 abbrev pub digit_of : ℕ → Option ℕ

@@ -1,5 +1,5 @@
 -- The way to a whole number of steps, step by step.
-use Rattle.std.proofs.Common.{◌≡◌, ℕ, zero, suc, ◌+◌, true, false, ℤ, pos, negsuc, nat_abs, sym, refl, ap, ◌∙◌, add-one, arith, ltb-true}
+use Rattle.std.proofs.Common.{◌≡◌, ℕ, ◌+◌, true, false, ℤ, pos, negsuc, nat_abs, sym, refl, ap, ◌∙◌, add-one, arith, ltb-true}
 use lib.Signed.{lt_z}
 use Rattle.masking.specs.Steps.{times, Γ}
 

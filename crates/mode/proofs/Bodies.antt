@@ -1,5 +1,5 @@
 -- The loop over the blocks before the last.
-use Rattle.std.proofs.Common.{◌≡◌, ℕ, zero, suc, ◌+◌, ◌-◌, ◌*◌, ◌/◌, ◌%◌, ◌<◌, ◌≤◌, List, [], ◌∷◌, ◌++◌, length, take, drop, sym, refl, ap, ◌∙◌, subst, ap₂, append_assoc, arith, length-append, length-drop}
+use Rattle.std.proofs.Common.{◌≡◌, ℕ, ◌+◌, ◌-◌, ◌*◌, ◌≤◌, List, ◌++◌, length, take, drop, refl, ap, ◌∙◌, subst, ap₂, arith, length-append, length-drop}
 use lib.Bits.{bit_xor}
 use borrow.Rule.Slice.PartMut.{put_mid}
 use Rattle.std.proofs.lemmas.List.{take_at, take_all, drop_all, append-nil, take_rest}
@@ -8,7 +8,7 @@ use Rattle.block.specs.BytesLaws.{length_bytes, stored_whole}
 use Rattle.block.specs.Bytes.{bytes_of, block_at, stored_at}
 use Rattle.mode.specs.declared.value.Mode.{Mode}
 use Rattle.block.specs.Bytes.{xor_bytes}
-use Rattle.block.specs.Cut.{before, block_count, last_bits, last_of, zero_filled, through, sum_of}
+use Rattle.block.specs.Cut.{before, block_count, last_bits, last_of, through}
 use Rattle.masking.specs.Steps.{times}
 use Rattle.block.specs.BytesLaws.{length-xor}
 use Rattle.block.specs.CutLaws.{length-through}

@@ -1,11 +1,11 @@
 -- Loops that write along a slice: their steps and ends.
-use Rattle.std.proofs.Common.{◌≡◌, ℕ, zero, suc, ◌+◌, ◌-◌, ◌*◌, ◌/◌, ◌%◌, ◌<◌, ◌≤◌, List, [], ◌∷◌, ◌++◌, length, get_or, take, drop, set, replicate, sym, refl, ap, ◌∙◌, subst, ap₂, append_assoc, add-one, arith, length-append, length-drop, length-take, drop-cons}
+use Rattle.std.proofs.Common.{◌≡◌, ℕ, zero, suc, ◌+◌, ◌*◌, ◌<◌, List, [], ◌∷◌, ◌++◌, length, get_or, take, drop, set, sym, refl, ap, ◌∙◌, ap₂, append_assoc, add-one, arith, length-take}
 use lib.Bits.{bit_xor}
-use lib.Seq.{set_at, take-append-add}
-use Rattle.std.proofs.lemmas.List.{take_all, drop_all, append-nil, drop_more, length-take-le, drop-replicate, take-replicate, take_at, drop_at, drop-drop}
-use Rattle.block.specs.Bytes.{number_of, bytes_of, block_at}
+use lib.Seq.{set_at}
+use Rattle.std.proofs.lemmas.List.{take_all, drop_all, append-nil, drop_more, take_at, drop_at, drop-drop}
+use Rattle.block.specs.Bytes.{bytes_of, block_at}
 use Rattle.block.specs.Bytes.{xor_bytes}
-use Rattle.block.specs.Cut.{fill_with, through, sum_of}
+use Rattle.block.specs.Cut.{through, sum_of}
 use Rattle.masking.specs.Steps.{times}
 use Rattle.block.specs.BytesLaws.{length-xor}
 use Rattle.block.specs.CutLaws.{length-through}

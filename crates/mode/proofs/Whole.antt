@@ -1,18 +1,18 @@
 -- Sealing and opening, put together from their steps.
-use Rattle.std.proofs.Common.{◌≡◌, ℕ, zero, suc, ◌+◌, ◌-◌, ◌*◌, ◌/◌, ◌^◌, ◌<◌, ◌≤◌, Bool, eqb, List, [], ◌∷◌, ◌++◌, length, take, drop, sym, refl, ap, ◌∙◌, subst, ap₂, ⊎_elim, add-one, arith, length-drop}
+use Rattle.std.proofs.Common.{◌≡◌, ℕ, ◌+◌, ◌-◌, ◌*◌, ◌^◌, ◌<◌, Bool, eqb, List, [], ◌++◌, length, take, drop, sym, refl, ap, ◌∙◌, subst, ap₂, ⊎_elim, arith, length-drop}
 use lib.Bits.{bit_xor}
 use borrow.Rule.Slice.PartMut.{put_mid}
 use Rattle.std.proofs.lemmas.List.{take_rest, take_at, drop_at, drop_all, append-nil, length-take-le}
 use Rattle.std.proofs.lemmas.Bool.{cases_eq, eq-eqb, ne_eqb}
-use Rattle.block.specs.Bytes.{bytes_of, block_at}
+use Rattle.block.specs.Bytes.{bytes_of}
 use Rattle.block.specs.Bytes.{Bytes}
 use Rattle.mode.specs.declared.value.Mode.{Mode}
 use Rattle.mode.specs.declared.value.Mode.TheVariants.{Forward, Dual}
 use Rattle.block.specs.Bytes.{xor_bytes}
-use Rattle.block.specs.Cut.{before, block_count, last_of, fill_with, zero_filled, sum_of}
+use Rattle.block.specs.Cut.{before, block_count, last_of, fill_with, sum_of}
 use Rattle.masking.specs.Steps.{times}
 use Rattle.mode.specs.Values.{other_of}
-use Rattle.mode.specs.Sealing.{Maps, Lawful, delta_zero_of, delta_one_of, header_tag_of, gamma, sealing, opening, masked, pad_of, body, sealed_bytes, opened_bytes, tag_from_header, message_tag_of, tag_of, Seals}
+use Rattle.mode.specs.Sealing.{Maps, Lawful, delta_one_of, header_tag_of, gamma, sealing, opening, masked, pad_of, body, sealed_bytes, opened_bytes, tag_from_header, message_tag_of, tag_of}
 use Rattle.mode.specs.Gives.{Behind}
 use Rattle.mode.specs.SealingLaws.{length_sealed, length-body, bytes_body, last_body, sealed_opened, seals_opened, tag_opened}
 use Rattle.mode.specs.Body.{BodyDone, Decided}

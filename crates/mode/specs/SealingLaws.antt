@@ -1,24 +1,23 @@
 -- What follows from the definitions of the modes.
-use Rattle.std.specs.Prelude.{◌≡◌, ℕ, zero, suc, ◌+◌, ◌-◌, ◌*◌, ◌/◌, ◌^◌, ◌<◌, ◌≤◌, Bool, true, false, ◌≢◌, List, [], ◌∷◌, ◌++◌, length, drop, ◌==◌, bit_xor}
+use Rattle.std.specs.Prelude.{◌≡◌, ℕ, zero, suc, ◌+◌, ◌*◌, ◌^◌, ◌<◌, ◌≤◌, Bool, true, false, ◌≢◌, List, [], ◌∷◌, ◌++◌, length, drop, ◌==◌, bit_xor}
 use Rattle.std.proofs.Math.Path.{refl, sym, ap, ap₂, subst}
-use Rattle.std.proofs.Common.{◌∙◌, ⊎_elim, length-drop, length-append}
+use Rattle.std.proofs.Common.{◌∙◌, length-drop, length-append}
 use native.Mathlib.Omega.{arith}
 use Rattle.std.specs.Int.Bits.{xor_lt}
-use Rattle.std.proofs.lemmas.Nat.{xor_comm}
-use Rattle.std.proofs.lemmas.List.{take_at, drop_at, take-append-drop, nil_from_length}
+use Rattle.std.proofs.lemmas.List.{drop_at, take-append-drop}
 use Rattle.block.specs.Maps.{Undo}
-use Rattle.block.specs.Bytes.{bytes_of, block_at}
-use Rattle.block.specs.Bytes.{Bytes, none, more}
+use Rattle.block.specs.Bytes.{bytes_of}
+use Rattle.block.specs.Bytes.{Bytes}
 use Rattle.block.specs.BytesLaws.{length_bytes}
-use Rattle.block.specs.BytesLaws.{bytes_take, bytes_drop}
+use Rattle.block.specs.BytesLaws.{bytes_drop}
 use Rattle.mode.specs.declared.value.Mode.{Mode}
 use Rattle.mode.specs.declared.value.Mode.TheVariants.{Forward, Dual}
 use Rattle.block.specs.Bytes.{xor_bytes}
-use Rattle.block.specs.Cut.{before, block_count, last_bits, last_of, fill_with, filled, zero_filled, through, sum_of, OneBlock}
+use Rattle.block.specs.Cut.{before, block_count, last_bits, last_of, filled, zero_filled, through, sum_of, OneBlock}
 use Rattle.masking.specs.Steps.{times}
 use Rattle.mode.specs.Sealing.{Apart, in_header, in_sealed, in_tag}
 use Rattle.block.specs.Xor.{xor-twice, xor_cancel_right, xor_cancel_left}
-use Rattle.block.specs.BytesLaws.{bytes_append, bytes_of_lem, length-xor, xor_bytes_twice, bytes_xor, block_fits}
+use Rattle.block.specs.BytesLaws.{bytes_append, bytes_of_lem, length-xor, xor_bytes_twice, bytes_xor}
 use Rattle.block.specs.CutLaws.{fill_fits, length-through, bytes_through, Fits, block-through, through_undo, sum_fits, sum_same, sum_tells}
 use Rattle.mode.specs.Sealing.{Maps, Lawful, delta_zero_of, delta_one_of, kappa, header_block, closing, some_header_tag, header_tag_of, gamma, sealing, opening, masked, pad_of, body, sealed_bytes, opened_bytes, tag_from_header, message_tag_of, tag_of, Seals}
 

@@ -1,5 +1,5 @@
 -- What the modes promise, over every cipher and masking.
-use Rattle.std.specs.Prelude.{◌≡◌, ℕ, ◌^◌, ◌<◌, List}
+use Rattle.std.specs.Prelude.{◌≡◌, ℕ, List}
 use Rattle.block.specs.Maps.{IsBlock}
 use Rattle.block.specs.Bytes.{Bytes}
 use Rattle.mode.specs.declared.value.Mode.{Mode}

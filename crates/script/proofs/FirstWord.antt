@@ -1,5 +1,5 @@
 -- The first of a line's words, and the others.
-use Rattle.std.proofs.Common.{◌≡◌, ℕ, List, [], ◌∷◌, get_or, drop, sym, refl, subst}
+use Rattle.std.proofs.Common.{◌≡◌, ℕ, List, [], ◌∷◌, get_or, drop, sym, subst}
 use Rattle.script.specs.declared.call.Call.{Call}
 use Rattle.script.specs.Calls.{Takes}
 

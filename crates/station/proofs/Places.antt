@@ -1,5 +1,5 @@
 -- What holds of the open at one position of a list, and the law over whole lists.
-use Rattle.std.proofs.Common.{◌≡◌, ℕ, ◌+◌, ◌<◌, ◌≤◌, List, [], ◌∷◌, ◌++◌, length, take, Some, None, Ok, Err, Result, sym, refl, ap, ◌∙◌, subst, inl, inr, arith}
+use Rattle.std.proofs.Common.{◌≡◌, ℕ, List, [], ◌∷◌, ◌++◌, take, None, Ok, Err, Result, sym, refl, ap, ◌∙◌, subst, inl, inr, arith}
 use Rattle.mode.specs.declared.fault.ModeFault.TheVariants.{OutputLength, NotSealed}
 use Rattle.mode.specs.declared.pair.Pair.{Pair}
 use Rattle.mode.specs.declared.value.Mode.{Mode}
@@ -10,7 +10,7 @@ use Rattle.frame.specs.declared.fault.FrameFault.TheVariants.{UnknownMode, Clear
 use Rattle.frame.specs.declared.fault.HeadField.{HeadField}
 use Rattle.frame.specs.declared.fault.HeadField.TheVariants.{AfterMode, ClearLength, SealedLength, ClearStart, SealedStart, TagStart, BeforeSender, AfterSender, BeforeNumber}
 use Rattle.frame.specs.Fields.{mode_byte, Holds, AllHold}
-use Rattle.frame.specs.Form.{SealsTo, Neighbours}
+use Rattle.frame.specs.Form.{SealsTo}
 use Rattle.frame.specs.Gives.{Known}
 use Rattle.frame.specs.FormLaws.{only_one, never_neighbours}
 use Rattle.station.specs.declared.fault.StationFault.{StationFault}
@@ -18,9 +18,9 @@ use Rattle.station.specs.declared.fault.StationFault.TheVariants.{SameId, BadNum
 use Rattle.station.specs.declared.state.Opened.{Opened}
 use Rattle.station.specs.declared.state.Station.{Station}
 use Rattle.station.specs.Numbers.{held}
-use Rattle.station.specs.Events.{Event, Reserve, GiveUp, Seal, Open}
+use Rattle.station.specs.Events.{Event, Open}
 use Rattle.station.specs.Steps.{Step, Fresh, Founds}
-use Rattle.station.specs.Laws.{highest_then, highest_after, out_after, written_off_count, reserves, seals, NoOtherFault, Accepted, Decided, Delivered, Run, Kept, Lasts}
+use Rattle.station.specs.Laws.{highest_then, highest_after, out_after, written_off_count, reserves, seals, NoOtherFault, Decided, Delivered, Run, Kept, Lasts}
 use Rattle.station.proofs.Runs.{moved, ran, distinct}
 
 known : (mode : Mode) (m : ℕ) → m ≡ mode_value mode → Known m

@@ -12,7 +12,7 @@ use Rattle.station.specs.declared.fault.StationFault.TheVariants.{SameId, BadNum
 use Rattle.station.specs.declared.state.Opened.{Opened}
 use Rattle.station.specs.declared.state.Station.{Station}
 use Rattle.station.specs.declared.state.Ticket.{Ticket}
-use Rattle.station.specs.Numbers.{held, reach}
+use Rattle.station.specs.Numbers.{reach}
 use Rattle.station.specs.Events.{Event, Reserve, GiveUp, Seal, Open}
 use Rattle.station.specs.Steps.{Step, Reserves, WritesOff, Seals, Opens}
 use Rattle.station.specs.Laws.{Absent, Distinct, seal_number, open_number, seal_numbers, open_numbers, is_reserve, is_seal, reserves, seals, out_then, out_after, off_by, written_off_count, highest_then, Run}

@@ -1,5 +1,5 @@
 -- What holds of every list of calls that begins at a new station.
-use Rattle.std.specs.Prelude.{◌≡◌, ℕ, ◌+◌, ◌<◌, ◌≤◌, Bool, true, false, cond, ◌&&◌, List, [], ◌∷◌, ◌++◌, length, take, Some, None, Ok, Err, Option, Result, ◌≢◌, nat_le}
+use Rattle.std.specs.Prelude.{◌≡◌, ℕ, ◌+◌, ◌<◌, ◌≤◌, Bool, cond, ◌&&◌, List, [], ◌∷◌, ◌++◌, length, take, Some, None, Ok, Err, Option, Result, ◌≢◌, nat_le}
 use Rattle.mode.specs.declared.fault.ModeFault.TheVariants.{NotSealed}
 use Rattle.mode.specs.declared.pair.Pair.{Pair}
 use Rattle.mode.specs.Sealing.{Maps}
@@ -10,7 +10,6 @@ use Rattle.station.specs.declared.fault.StationFault.{StationFault}
 use Rattle.station.specs.declared.fault.StationFault.TheVariants.{Frame}
 use Rattle.station.specs.declared.state.Opened.{Opened}
 use Rattle.station.specs.declared.state.Station.{Station}
-use Rattle.station.specs.declared.state.Ticket.{Ticket}
 use Rattle.station.specs.Events.{Event, Reserve, GiveUp, Seal, Open}
 use Rattle.station.specs.Faults.{number_of}
 use Rattle.station.specs.Numbers.{held}

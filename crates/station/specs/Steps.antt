@@ -1,5 +1,5 @@
 -- What each call answers, writes and makes of a station, accepted or refused.
-use Rattle.std.specs.Prelude.{◌≡◌, ℕ, ◌+◌, ◌<◌, ◌≤◌, Bool, cond, ◌⊎◌, List, ◌++◌, length, drop, replicate, Some, None, Ok, Err, Option, Result, ◌≢◌}
+use Rattle.std.specs.Prelude.{◌≡◌, ℕ, ◌+◌, ◌<◌, ◌≤◌, Bool, cond, ◌⊎◌, List, ◌++◌, length, drop, replicate, Some, None, Ok, Err, Result, ◌≢◌}
 use Rattle.mode.specs.declared.fault.ModeFault.TheVariants.{OutputLength, NotSealed}
 use Rattle.mode.specs.declared.pair.Pair.{Pair}
 use Rattle.mode.specs.Sealing.{Maps}

@@ -1,7 +1,7 @@
 -- Records written and read byte by byte, and one more record behind others.
 use Rattle.std.proofs.Common.{◌≡◌, ℕ, ◌+◌, ◌-◌, ◌*◌, ◌/◌, ◌%◌, ◌<◌, List, [], ◌∷◌, ◌++◌, length, get_or, take, drop, sym, refl, ap, ◌∙◌, ap₂, append_assoc, div-one, arith, drop-cons, take-add}
 use Rattle.std.proofs.lemmas.List.{append-nil, take_more, drop_all}
-use Rattle.block.specs.Bytes.{Bytes, bytes_of}
+use Rattle.block.specs.Bytes.{bytes_of}
 use Rattle.block.specs.Bytes.Bytes.{none, more}
 use Rattle.block.specs.BytesLaws.{bytes_read}
 use Rattle.task.specs.declared.record.Offset.{Offset}

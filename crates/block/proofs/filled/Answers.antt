@@ -1,4 +1,4 @@
-use Rattle.std.proofs.Common.{◌≤◌, arith}
+use Rattle.std.proofs.Common.{arith}
 use native.Mathlib.Nat.{sub-zero}
 use Rattle.block.proofs.Places.{filled_short, filled_long}
 use Rattle.block.proofs.filled.Goals as goal

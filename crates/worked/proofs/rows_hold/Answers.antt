@@ -1,6 +1,6 @@
 -- Every row holds by computation, once it is said that each message is of bytes.
 use Prim.Native.Nat.{ℕ, ◌<◌}
-use mathlib.Core.List.{List, [], ◌∷◌, ◌++◌}
+use mathlib.Core.List.{List, [], ◌∷◌}
 use mathlib.Core.Path.{◌≡◌, refl}
 use lib.Dec.{lit<}
 use Rattle.block.specs.Bytes.{Bytes, none, more, bytes_of, xor_bytes}

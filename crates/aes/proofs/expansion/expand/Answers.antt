@@ -1,4 +1,4 @@
-use Rattle.std.proofs.Common.{◌≡◌, ℕ, List, [], sym, refl, ap, ◌∙◌, subst, arith}
+use Rattle.std.proofs.Common.{◌≡◌, List, sym, refl, ap, ◌∙◌, subst, arith}
 use Rattle.aes.specs.CipherLaws.{AllKeyBytes}
 use Rattle.aes.specs.KeyExpansion.{round_keys, word_at}
 use Rattle.aes.specs.RoundKeys.{cells_of}

@@ -1,4 +1,4 @@
-use Rattle.std.proofs.Common.{◌≡◌, ℕ, Ok, refl, subst}
+use Rattle.std.proofs.Common.{ℕ, Ok, refl, subst}
 use Rattle.block.specs.Bytes.{block_at}
 use Rattle.mode.specs.Pairs.{maps_of}
 use Rattle.mode.specs.Sealing.{Maps}

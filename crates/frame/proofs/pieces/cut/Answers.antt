@@ -1,5 +1,4 @@
-use Rattle.std.proofs.Common.{◌≡◌, ℕ, ◌-◌, List, length, take, drop, refl, ap, ◌∙◌, ap₂, arith, rules}
-use native.Mathlib.Nat.{sub-zero}
+use Rattle.std.proofs.Common.{◌≡◌, ℕ, ◌-◌, List, length, take, drop, refl, ◌∙◌, ap₂, arith, rules}
 use Rattle.block.specs.BytesLaws.{bytes_from}
 use Rattle.frame.specs.Fields.{clear_length, sealed_length, sealed_start, tag_start}
 use Rattle.frame.proofs.pieces.cut.Goals as goal

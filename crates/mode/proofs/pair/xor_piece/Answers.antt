@@ -1,6 +1,5 @@
-use Rattle.std.proofs.Common.{◌≡◌, ℕ, List, length, refl, ap, ◌∙◌, div-one, arith}
+use Rattle.std.proofs.Common.{◌≡◌, length, ap, ◌∙◌, div-one, arith}
 use Rattle.block.specs.Bytes.{bytes_of}
-use Rattle.block.specs.BytesLaws.{length_bytes}
 use Rattle.block.specs.Bytes.{xor_bytes}
 use Rattle.mode.proofs.Loops.{xor_none, xor_again, xor_ends}
 use Rattle.mode.proofs.pair.xor_piece.Goals as goal

@@ -1,5 +1,4 @@
 use Rattle.std.proofs.Common.{◌≡◌, ◌++◌, take, drop}
-use Rattle.block.specs.Bytes.{bytes_of}
 use Rattle.block.specs.Bytes.{xor_bytes}
 use Rattle.mode.proofs.pair.xor_piece.Given as goal
 

@@ -1,5 +1,5 @@
 -- The first word is the call's kind, and the rest of the line its other words.
-use Rattle.std.proofs.Common.{◌≡◌, sym, ap, ◌∙◌}
+use Rattle.std.proofs.Common.{sym, ap, ◌∙◌}
 use Rattle.script.specs.Words.{words_of}
 use Rattle.script.proofs.FirstWord.{kind_first}
 use Rattle.script.proofs.reading.read.Goals as goal

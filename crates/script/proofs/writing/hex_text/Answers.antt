@@ -1,5 +1,5 @@
 -- Each turn adds the two digits of one more byte.
-use Rattle.std.proofs.Common.{◌≡◌, ◌/◌, ◌%◌, ◌<◌, length, get_or, sym, ◌∙◌, arith, rules}
+use Rattle.std.proofs.Common.{◌/◌, ◌%◌, ◌<◌, length, get_or, ◌∙◌, rules}
 use Rattle.script.specs.Hex.{hex_digits}
 use Rattle.script.proofs.Digits.{hex_more, hex_all, digit_low}
 use Rattle.script.proofs.writing.hex_text.Goals as goal

@@ -1,5 +1,5 @@
 -- Each line is that of its case.
-use Rattle.std.proofs.Common.{◌≡◌, ap, rules}
+use Rattle.std.proofs.Common.{ap, rules}
 use Rattle.script.specs.Calls.{call_line}
 use Rattle.script.specs.Hex.{hex_text_of}
 use Rattle.script.proofs.writing.write.Goals as goal

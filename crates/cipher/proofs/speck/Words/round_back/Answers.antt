@@ -1,4 +1,4 @@
-use Rattle.std.proofs.Common.{◌≡◌, ℕ, ◌+◌, ◌-◌, ◌%◌, ◌^◌, ◌<◌, ap, ◌∙◌, arith}
+use Rattle.std.proofs.Common.{◌+◌, ◌-◌, ◌%◌, ◌^◌, ◌∙◌, arith}
 use lib.Bits.{bit_xor, xor_lt}
 use Rattle.cipher.specs.Speck.{old_left, old_right}
 use Rattle.cipher.proofs.Rounds.{right_3, left_8}

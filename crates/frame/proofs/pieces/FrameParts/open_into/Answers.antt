@@ -1,4 +1,3 @@
-use Rattle.std.proofs.Common.{arith}
 use Rattle.mode.specs.Pairs.{maps_of}
 use Rattle.frame.proofs.Opening.{parts_opened}
 use Rattle.frame.proofs.pieces.FrameParts.open_into.Goals as goal

@@ -1,5 +1,4 @@
-use Rattle.std.proofs.Common.{◌≡◌, ℕ, ◌/◌, length, refl, ap, subst, arith}
-use lib.Bits.{bit_xor}
+use Rattle.std.proofs.Common.{◌≡◌, ℕ, length, subst, arith}
 use Rattle.block.specs.Cut.{before}
 use Rattle.mode.specs.Sealing.{Maps}
 use Rattle.mode.specs.declared.pair.Pair.{Pair}

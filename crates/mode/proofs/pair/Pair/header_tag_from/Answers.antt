@@ -1,4 +1,4 @@
-use Rattle.std.proofs.Common.{◌≡◌, ℕ, ◌+◌, length, sym, refl, ap, ◌∙◌, arith}
+use Rattle.std.proofs.Common.{◌≡◌, ℕ, ◌+◌, length, ap, ◌∙◌, arith}
 use Rattle.block.specs.Cut.{before, sum_of}
 use Rattle.masking.specs.Steps.{times}
 use Rattle.mode.specs.Sealing.{Maps, header_block}

@@ -1,4 +1,4 @@
-use Rattle.std.proofs.Common.{ℕ, subst, arith, rules}
+use Rattle.std.proofs.Common.{subst, arith, rules}
 use Rattle.block.specs.BytesLaws.{bytes_from}
 use Rattle.mode.specs.declared.value.Mode.{Mode}
 use Rattle.mode.specs.declared.pair.Pair.{Pair}

@@ -1,4 +1,4 @@
-use Rattle.std.proofs.Common.{◌-◌, arith, rules}
+use Rattle.std.proofs.Common.{arith, rules}
 use Rattle.block.specs.BytesLaws.{bytes_from}
 use Rattle.mode.specs.declared.pair.Pair.{Pair}
 use Rattle.mode.specs.Sealing.{Maps}

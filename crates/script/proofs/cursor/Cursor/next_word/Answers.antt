@@ -1,5 +1,5 @@
 -- Each turn takes the piece before the next space: a word, or nothing.
-use Rattle.std.proofs.Common.{◌≡◌, Some, None, sym, ◌∙◌, arith}
+use Rattle.std.proofs.Common.{Some, None, sym, ◌∙◌, arith}
 use Rattle.std.proofs.lemmas.Str.Pattern.{split_parts}
 use Rattle.script.proofs.Pieces.{piece_some, piece_none, last_some, last_none, is_long, is_none}
 use Rattle.script.proofs.cursor.Cursor.next_word.Goals as goal

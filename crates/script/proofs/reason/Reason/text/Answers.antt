@@ -1,4 +1,4 @@
-use Rattle.std.proofs.Common.{◌≡◌, ap}
+use Rattle.std.proofs.Common.{ap}
 use Rattle.script.specs.Reasons.{text_of}
 use Rattle.script.proofs.reason.Reason.text.Goals as goal
 
