@@ -22,8 +22,7 @@ fn encrypt_each<C: Cipher>(cipher: &C, bytes: &mut [u8]) -> u64
 }
 
 // Encrypts every whole block in place; answers how many bytes they have, or why not.
-#[unsafe(no_mangle)]
-pub extern "C" fn sealed_frames_encrypt_blocks(cipher: u8, key: &[u8], bytes: &mut [u8]) -> u64
+pub fn sealed_frames_encrypt_blocks(cipher: u8, key: &[u8], bytes: &mut [u8]) -> u64
     ensures { BlocksMapped cipher key.now (forward_under key.now) bytes.old bytes.new result }
 {
     match CipherChoice::of(cipher, key.len()) {
@@ -34,8 +33,7 @@ pub extern "C" fn sealed_frames_encrypt_blocks(cipher: u8, key: &[u8], bytes: &m
 }
 
 // Decrypts every whole block in place; answers how many bytes they have, or why not.
-#[unsafe(no_mangle)]
-pub extern "C" fn sealed_frames_decrypt_blocks(cipher: u8, key: &[u8], bytes: &mut [u8]) -> u64
+pub fn sealed_frames_decrypt_blocks(cipher: u8, key: &[u8], bytes: &mut [u8]) -> u64
     ensures { BlocksMapped cipher key.now (backward_under key.now) bytes.old bytes.new result }
 {
     match CipherChoice::of(cipher, key.len()) {

@@ -46,8 +46,7 @@ fn seal_under(
 }
 
 // Seals a message into a frame at the output's start; answers its length or why not.
-#[unsafe(no_mangle)]
-pub extern "C" fn sealed_frames_seal(
+pub fn sealed_frames_seal(
     cipher: u8,
     masking: u8,
     key: &[u8],
@@ -90,14 +89,7 @@ fn open_under(choice: Choice, key: [u8; 16], frame: &[u8], out: &mut [u8]) -> u6
 }
 
 // Opens a frame into the output's start; answers the message's length or why not.
-#[unsafe(no_mangle)]
-pub extern "C" fn sealed_frames_open(
-    cipher: u8,
-    masking: u8,
-    key: &[u8],
-    frame: &[u8],
-    out: &mut [u8],
-) -> u64
+pub fn sealed_frames_open(cipher: u8, masking: u8, key: &[u8], frame: &[u8], out: &mut [u8]) -> u64
     ensures { Called cipher masking key.now (λ w. FrameOpened w frame.now out.old out.new result) (out.new ≡ out.old) result }
 {
     match Choice::of(cipher, masking, key.len()) {

@@ -1,4 +1,4 @@
-// The library for C: frames, modes and block ciphers, over numbers and byte strings. Here are the choices and the codes; the modules have the calls.
+// Frames, modes and block ciphers over numbers and byte strings, as C calls them through capi_c. Here are the choices and the codes; the modules have the calls.
 #![tactic(auto)]
 
 ghost use Rattle.std.specs.Prelude.{◌≡◌, length};
@@ -27,6 +27,10 @@ macro_rules! under {
 mod blocks;
 mod frames;
 mod modes;
+
+pub use blocks::{sealed_frames_decrypt_blocks, sealed_frames_encrypt_blocks};
+pub use frames::{sealed_frames_open, sealed_frames_seal};
+pub use modes::{sealed_frames_mode_open, sealed_frames_mode_seal};
 
 // Why a call is not made: nothing is written then.
 #[derive(Clone, Copy)]

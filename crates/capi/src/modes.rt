@@ -72,8 +72,7 @@ fn seal_under(
 }
 
 // Seals a message into an output of its length, and writes the tag; answers the length or why not.
-#[unsafe(no_mangle)]
-pub extern "C" fn sealed_frames_mode_seal(
+pub fn sealed_frames_mode_seal(
     cipher: u8,
     masking: u8,
     key: &[u8],
@@ -135,8 +134,7 @@ fn open_under(
 }
 
 // Opens sealed bytes into an output of their length; answers the length or why not.
-#[unsafe(no_mangle)]
-pub extern "C" fn sealed_frames_mode_open(
+pub fn sealed_frames_mode_open(
     cipher: u8,
     masking: u8,
     key: &[u8],
