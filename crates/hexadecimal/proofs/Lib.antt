@@ -1,1 +1,3 @@
-mod Pairs
+pub mod Spelling
+pub mod Writing
+pub mod Spells

@@ -3,7 +3,7 @@ ghost use Rattle.std.specs.Prelude.{◌≡◌, ℕ, ◌^◌, ◌<◌, List, leng
 ghost use Rattle.std.specs.Int.{w16};
 ghost use Rattle.std.specs.Option.{SomeIff};
 ghost use Rattle.std.specs.Str.Parse.{IsNumeral, digits_value, without_leading_plus, without_leading_sign, signed_digits_value};
-ghost use Rattle.hexadecimal.specs.Hex.{Spells};
+ghost use Rattle.hexadecimal.specs.Hex.{Spells, spelled as spelled_by};
 ghost use Rattle.task.specs.Words.{name_of};
 
 use std::alloc::{AllocError, Global};
@@ -17,7 +17,8 @@ pub enum ValveHead {
 
 // The key of 16 bytes that a word of 32 hexadecimal digits spells, or none if it does not.
 pub fn key(heap: Global, word: &str) -> Result<Option<[u8; 16]>, AllocError>
-    ensures { IfOk result (λ o. MatchOption o ((bs : List ℕ) → length bs ≡ 16 → Spells word.now bs → ⊥) (λ k. Spells word.now k)) }
+    ensures spells { IfOk result (λ o. MatchOption o ((bs : List ℕ) → length bs ≡ 16 → Spells word.now bs → ⊥) (λ k. Spells word.now k)) }
+    ensures spelled { IfOk result (λ o. MatchOption o ((bs : List ℕ) → length bs ≡ 16 → spelled_by word.now ≢ Some bs) (λ k. spelled_by word.now ≡ Some k)) }
 {
     let Some(spelled) = hexadecimal::bytes(heap, word.as_bytes())? else {
         return Ok(None);
