@@ -1,6 +1,10 @@
 pub mod Answers
 pub mod Calls
 pub mod Hex
+pub mod Lines
 pub mod Reasons
+pub mod Results
+pub mod Said
 pub mod Tallies
+pub mod Values
 pub mod Words

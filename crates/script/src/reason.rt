@@ -1,6 +1,7 @@
 // Why a line is not read.
 ghost use Rattle.std.specs.Prelude.{◌≡◌};
 ghost use Rattle.script.specs.Reasons.{text_of};
+ghost use Rattle.script.specs.declared.reason.Unread.TheVariants.{Because, Memory};
 
 use std::alloc::AllocError;
 
@@ -57,12 +58,16 @@ pub enum Unread {
 }
 
 impl From<Reason> for Unread {
+    ghost from_gives = { λ why r. r ≡ Because why };
+
     fn from(reason: Reason) -> Unread {
         Unread::Because(reason)
     }
 }
 
 impl From<AllocError> for Unread {
+    ghost from_gives = { λ error r. r ≡ Memory error };
+
     fn from(error: AllocError) -> Unread {
         Unread::Memory(error)
     }

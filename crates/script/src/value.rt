@@ -1,4 +1,8 @@
 // Words of a script, read as values.
+ghost use Rattle.std.specs.Prelude.{◌≡◌, vec_items};
+ghost use Rattle.script.specs.Results.{Gives};
+ghost use Rattle.script.specs.Values.{number_of, string_of, key_of, sixteen};
+
 use crate::reason::{Reason, Unread};
 use std::alloc::Global;
 
@@ -6,18 +10,28 @@ use std::alloc::Global;
 pub const LONGEST: usize = 65_536;
 
 // The number that a word of decimal digits writes, if it is at most the given one.
-pub fn number(word: &str, most: u64) -> Option<u64> {
+pub fn number(word: &str, most: u64) -> Result<u64, Reason>
+    ensures { result ≡ number_of most word.now }
+{
     if word.starts_with('+') {
-        return None;
+        return Err(Reason::NotANumber);
     }
     match word.parse::<u64>() {
-        Ok(n) if n <= most => Some(n),
-        _ => None,
+        Ok(n) => {
+            if n <= most {
+                Ok(n)
+            } else {
+                Err(Reason::NotANumber)
+            }
+        }
+        Err(_) => Err(Reason::NotANumber),
     }
 }
 
 // The bytes that a word spells, or none for -.
-pub fn bytes(heap: Global, word: &str) -> Result<Vec<u8>, Unread> {
+pub fn bytes(heap: Global, word: &str) -> Result<Vec<u8>, Unread>
+    ensures { Gives vec_items (string_of word.now) result }
+{
     if word == "-" {
         return Ok(Vec::new(heap));
     }
@@ -30,13 +44,22 @@ pub fn bytes(heap: Global, word: &str) -> Result<Vec<u8>, Unread> {
     Ok(spelled)
 }
 
-// The key of 16 bytes that a word spells.
-pub fn key(heap: Global, word: &str) -> Result<[u8; 16], Unread> {
-    let spelled = bytes(heap, word)?;
+// Bytes as a key, if there are 16.
+fn key_of(spelled: &[u8]) -> Result<[u8; 16], Reason>
+    ensures { result ≡ sixteen spelled.now }
+{
     if spelled.len() != 16 {
-        return Err(Unread::Because(Reason::NotAKey));
+        return Err(Reason::NotAKey);
     }
     let mut key = [0; 16];
-    key.copy_from_slice(spelled.as_slice());
+    key.copy_from_slice(spelled);
     Ok(key)
+}
+
+// The key of 16 bytes that a word spells.
+pub fn key(heap: Global, word: &str) -> Result<[u8; 16], Unread>
+    ensures { Gives (λ k. k) (key_of word.now) result }
+{
+    let spelled = bytes(heap, word)?;
+    Ok(key_of(spelled.as_slice())?)
 }

@@ -1,40 +1,25 @@
 // Writing a call as a line, and bytes as hexadecimal text.
-ghost use Rattle.std.specs.Prelude.{◌≡◌, ◌<◌, IfOk, string_bytes};
+ghost use Rattle.std.specs.Prelude.{◌≡◌, IfOk, string_bytes};
 ghost use Rattle.script.specs.Calls.{call_line};
-ghost use Rattle.script.specs.Hex.{hex_char, hex_text_of};
+ghost use Rattle.script.specs.Lines.{WritesCall};
+ghost use Rattle.script.specs.Hex.{hex_text_of};
 
 use crate::call::Call;
 use std::alloc::{AllocError, Global};
-
-// The character of a digit's value, small letters from ten on.
-fn digit(value: u8) -> char
-    requires { value < 16 }
-    ensures { result ≡ hex_char value }
-{
-    if value < 10 {
-        char::from(b'0' + value)
-    } else {
-        char::from(b'a' + (value - 10))
-    }
-}
 
 // Bytes as pairs of hexadecimal digits, or - where there are none.
 pub fn hex_text(heap: Global, bytes: &[u8]) -> Result<String, AllocError>
     ensures { IfOk result (λ t. string_bytes t ≡ hex_text_of bytes.now) }
 {
     if bytes.len() == 0 {
-        return String::from_str(heap, "-");
+        String::from_str(heap, "-")
+    } else {
+        hexadecimal::text(heap, bytes)
     }
-    let mut text = String::new(heap);
-    for byte in bytes {
-        text.push(digit(*byte / 16))?;
-        text.push(digit(*byte % 16))?;
-    }
-    Ok(text)
 }
 
-// The line that makes a call.
-pub fn write(heap: Global, call: &Call<'_>) -> Result<String, AllocError>
+// The words of a call, with a space between each two.
+fn line(heap: Global, call: &Call<'_>) -> Result<String, AllocError>
     ensures { IfOk result (λ t. string_bytes t ≡ call_line call.now) }
 {
     match call {
@@ -69,4 +54,22 @@ pub fn write(heap: Global, call: &Call<'_>) -> Result<String, AllocError>
         }
         Call::State { name } => format!(in heap; "state {name}"),
     }
+}
+
+// A call's line, of which it is shown here that it says the call when it is read again.
+fn read_back(call: &Call<'_>, line: String) -> String
+    requires { string_bytes line ≡ call_line call.now }
+    ensures line { string_bytes result ≡ call_line call.now }
+    ensures back { WritesCall call.now (string_bytes result) }
+{
+    line
+}
+
+// The line that makes a call. Read again, it says that call, if its names and labels are words and its strings and its buffer are not too long.
+pub fn write(heap: Global, call: &Call<'_>) -> Result<String, AllocError>
+    ensures line { IfOk result (λ t. string_bytes t ≡ call_line call.now) }
+    ensures back { IfOk result (λ t. WritesCall call.now (string_bytes t)) }
+{
+    let line = line(heap, call)?;
+    Ok(read_back(call, line))
 }

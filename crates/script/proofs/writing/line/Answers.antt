@@ -2,7 +2,7 @@
 use Rattle.std.proofs.Common.{ap, rules}
 use Rattle.script.specs.Calls.{call_line}
 use Rattle.script.specs.Hex.{hex_text_of}
-use Rattle.script.proofs.writing.write.Goals as goal
+use Rattle.script.proofs.writing.line.Goals as goal
 
 pub returns-in-Station : goal.returns-in-Station
 returns-in-Station c = let why = ap call_line c.in-Station.is in search rules
