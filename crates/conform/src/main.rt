@@ -1,14 +1,11 @@
 // Makes the calls of a script on real stations, one to a line of standard input, and prints the answers.
 #![tactic(auto)]
 
-mod member;
-mod runner;
-
-use runner::Runner;
+use session::Session;
 use std::io::{BufRead, BufReader};
 
 // Follows every line of the input and prints what it answers.
-fn follow_all(rt: &HostRuntime, runner: &mut Runner) -> anyhow::Result<()> {
+fn follow_all(rt: &HostRuntime, session: &mut Session) -> anyhow::Result<()> {
     let heap = rt.alloc();
     let mut input = BufReader::new(heap, rt.stdin())?;
     let mut line = Vec::new(heap);
@@ -20,16 +17,16 @@ fn follow_all(rt: &HostRuntime, runner: &mut Runner) -> anyhow::Result<()> {
         if line.last() == Some(&b'\n') {
             line.pop();
         }
-        let text = runner.follow(heap, number, line.as_slice())?;
+        let text = session.follow(heap, number, line.as_slice())?;
         rt.print(text.as_str())?;
     }
     Ok(())
 }
 
 fn main(rt: HostRuntime) -> anyhow::Result<()> {
-    let mut runner = Runner::new(rt.alloc());
-    let followed = follow_all(&rt, &mut runner);
-    let tally = runner.end();
+    let mut session = Session::new(rt.alloc());
+    let followed = follow_all(&rt, &mut session);
+    let tally = session.end();
     followed?;
     println!(rt; "{tally}")?;
     Ok(())
