@@ -2,7 +2,7 @@
 use Rattle.std.specs.Prelude.{◌≡◌, ℕ, ◌+◌, ◌-◌, ◌*◌, ◌/◌, ◌%◌, ◌<◌, ◌≤◌, List, [], ◌∷◌, ◌++◌, Some, refl}
 use Rattle.std.proofs.Common.{ap, ◌∙◌, inl, inr, arith}
 use Rattle.std.proofs.lemmas.Bool.{cases_lt, lt-ltb, le-ltb, le-leb, lt-leb}
-use Rattle.std.specs.List.{AllByRecursion as All}
+use Rattle.std.specs.List.{AllByRecursion}
 use Rattle.hexadecimal.specs.Hex.{digit_of, spelled, hex_char, hex_digits, Written}
 
 decimal_digit : (v : ℕ) → v < 10 → digit_of (48 + v) ≡ Some v
@@ -31,7 +31,7 @@ digit_char v h =
     ]
 
 -- what is written is spelled
-pub spelled_digits : (bs : List ℕ) → All (λ b. b < 256) bs → spelled (hex_digits bs) ≡ Some bs
+pub spelled_digits : (bs : List ℕ) → AllByRecursion (λ b. b < 256) bs → spelled (hex_digits bs) ≡ Some bs
 unfolding spelled hex_digits
 spelled_digits [] h = refl
 spelled_digits (b ∷ bs) h =
@@ -41,7 +41,7 @@ spelled_digits (b ∷ bs) h =
     rw (high, low, spelled_digits bs h.1) (ap (λ (x : ℕ). Some (x ∷ bs)) whole)
 
 -- digits behind an empty text
-pub written_digits : (front text bs : List ℕ) → text ≡ front ++ hex_digits bs → All (λ b. b < 256) bs → front ≡ [] → Written text bs
+pub written_digits : (front text bs : List ℕ) → text ≡ front ++ hex_digits bs → AllByRecursion (λ b. b < 256) bs → front ≡ [] → Written text bs
 written_digits front text bs e small none =
     let alone = e ∙ ap (λ (f : List ℕ). f ++ hex_digits bs) none in
     record { digits = alone; back = ap spelled alone ∙ spelled_digits bs small }

@@ -1,6 +1,6 @@
 -- A call that is written as a line and read again.
 use Rattle.std.proofs.Common.{◌≡◌, ℕ, zero, suc, ◌+◌, ◌-◌, ◌/◌, ◌%◌, ◌^◌, ◌<◌, ◌≤◌, Bool, true, false, cond, eqb, ltb, List, [], ◌∷◌, ◌++◌, map, length, get_or, Ok, codes, decimal, Result, sym, refl, ap, ◌∙◌, subst, ⊎_elim, arith}
-use Rattle.std.specs.List.{AllByRecursion as All}
+use Rattle.std.specs.List.{AllByRecursion}
 use Rattle.std.specs.Str.{bytes_eq}
 use Rattle.std.proofs.lemmas.Fmt.{digits_decimal, digits_value-decimal, decimal_nonempty}
 use Rattle.std.proofs.lemmas.Slice.Eq.{bytes_eq-Decides}
@@ -52,7 +52,7 @@ unfolding hex_digits
 hex_word [] = record { some = omega arith; solid = dash_solid }
 hex_word (b ∷ bs) = record { some = omega arith; solid = hex_solid (b ∷ bs) }
 
-hex_back : (bs : List ℕ) → All (λ b. b < 256) bs → length bs ≤ 65536 → string_of (hex_text_of bs) ≡ Ok bs
+hex_back : (bs : List ℕ) → AllByRecursion (λ b. b < 256) bs → length bs ≤ 65536 → string_of (hex_text_of bs) ≡ Ok bs
 unfolding hex_digits
 hex_back [] small short = refl
 hex_back (b ∷ bs) small short =
@@ -106,14 +106,14 @@ values_back (f ∷ fs) (v ∷ vs) h =
     ap (λ (r : Result (Taken Value) Reason). then r (λ taken. under (λ ws. taken.value ∷ ws) (values_of fs taken.rest))) (first_back f v (map word_for vs) h.0)
     ∙ ap (under (λ (ws : List Value). v ∷ ws)) (values_back fs vs h.1)
 
-values_words : (fs : List Field) (vs : List Value) → FitAll fs vs → All Word (map word_for vs)
+values_words : (fs : List Field) (vs : List Value) → FitAll fs vs → AllByRecursion Word (map word_for vs)
 values_words [] [] h = tt
 values_words [] (v ∷ vs) h = absurd h
 values_words (f ∷ fs) [] h = absurd h
 values_words (f ∷ fs) (v ∷ vs) h = (value_word f v h.0, values_words fs vs h.1)
 
 -- words with a space between each two
-words_spaced : (w : List ℕ) (ws : List (List ℕ)) → Word w → All Word ws → words_of (spaced w ws) ≡ w ∷ ws
+words_spaced : (w : List ℕ) (ws : List (List ℕ)) → Word w → AllByRecursion Word ws → words_of (spaced w ws) ≡ w ∷ ws
 unfolding words_from
 words_spaced w [] h hs = last_some w h.solid h.some
 words_spaced w (v ∷ vs) h hs =
@@ -148,7 +148,7 @@ solid_from (c ∷ cs) t (suc i) h e =
 kind_by : (k : List ℕ) → spaceless k ≡ true → 0 < length k → eqb (get_or k 0 0) 35 ≡ false → bytes_eq k (codes "cipher") ≡ false → bytes_eq k (codes "masking") ≡ false → Kind k
 kind_by k t some mark c m = record { some = some; solid = solid_from k t; mark = mark; no_cipher = c; no_masking = m }
 
-kinds : All (λ s. Kind s.kind) shapes
+kinds : AllByRecursion (λ s. Kind s.kind) shapes
 unfolding spaceless
 kinds = (
   kind_by _ refl (omega arith) refl refl refl,
@@ -176,7 +176,7 @@ kinds = (
 -- what is known of a call that can be written: its first word, its other words, and what they say
 pub record Known (hs : List Shape) (s : Said) : Type 0 where
   pub kind : Kind s.kind
-  pub words : All Word (map word_for s.values)
+  pub words : AllByRecursion Word (map word_for s.values)
   pub says : said_in hs s.kind (map word_for s.values) ≡ Ok s
 
 at_true : {A : Type 1} (b : Bool) (x y : A) → b ≡ true → cond b x y ≡ x
@@ -185,7 +185,7 @@ at_true b x y e = ap (λ (t : Bool). cond t x y) e
 at_false : {A : Type 1} (b : Bool) (x y : A) → b ≡ false → cond b x y ≡ y
 at_false b x y e = ap (λ (t : Bool). cond t x y) e
 
-known : (hs : List Shape) (s : Said) → All (λ h. Kind h.kind) hs → Writable hs s → Known hs s
+known : (hs : List Shape) (s : Said) → AllByRecursion (λ h. Kind h.kind) hs → Writable hs s → Known hs s
 known [] s ks w = absurd w
 known (h ∷ hs) s ks w =
     let ws = map word_for s.values in

@@ -1,7 +1,7 @@
 -- What a word of a call stands for, the value that it writes, and the word that a value is written as.
 use Rattle.std.specs.Prelude.{ℕ, ◌-◌, ◌^◌, ◌<◌, ◌≤◌, cond, ◌&&◌, List, [], ◌∷◌, length, Some, None, Ok, Err, codes, decimal, Option, Result, ◌==◌, ◌≢◌, nat_le, nat_lt, slice_index}
 use Rattle.std.specs.Str.Parse.{digits_value}
-use Rattle.std.specs.List.{AllByRecursion as All}
+use Rattle.std.specs.List.{AllByRecursion}
 use Rattle.std.specs.Str.{all_ascii_digits, bytes_eq}
 use Rattle.hexadecimal.specs.Hex.{spelled}
 use Rattle.script.specs.declared.reason.Reason.{Reason}
@@ -81,7 +81,7 @@ Fit space (count n) = n ≤ 65536
 Fit space (bytes bs) = ⊥
 Fit string (text w) = ⊥
 Fit string (count n) = ⊥
-Fit string (bytes bs) = All (λ b. b < 256) bs × (length bs ≤ 65536)
+Fit string (bytes bs) = AllByRecursion (λ b. b < 256) bs × (length bs ≤ 65536)
 
 abbrev pub FitAll : List Field → List Value → Type 0
 FitAll [] [] = Unit {0}
