@@ -1,7 +1,8 @@
 /*
  * sealed_frames: sealing and opening frames, from C.
  *
- * Link libcapi.a, which `bench/run compare` proves, builds and puts into bench/target/staticlib, and a C library that has memcpy and memset.
+ * Link libcapi.a and a C library that has memcpy and memset. `rt lib` in crates/capi_c proves and builds it, as crates/capi_c/out/libcapi_c.a;
+ * `bench/run` copies that to bench/target/staticlib/libcapi.a.
  * No function allocates, keeps anything between calls, or fails otherwise than by its code.
  *
  * What the caller owes, and nothing checks: each pointer points to as many bytes as the length after it says (also for a length of 0 it is not NULL),
