@@ -39,7 +39,7 @@ abbrev pub Obeyed : {E : Type 0} → Meaning → Tally → Tally → Result (Str
 Obeyed said s t (Ok text) = Done said s t × Silent said (string_bytes text)
 Obeyed said s t (Err why) = (t ≡ s) × IsCall said
 
--- the reason is that of the line, or the line says a call, which names what is not there
+-- the reason is that of the line, or the line says a call, which the session could not make
 abbrev pub Unmade : Reason → Result Meaning Reason → Type 0
 Unmade why (Err w) = w ≡ why
 Unmade why (Ok said) = IsCall said
@@ -48,7 +48,7 @@ Unmade why (Ok said) = IsCall said
 abbrev pub not_read_text : ℕ → Reason → List ℕ
 not_read_text number why = lined (codes "line " ++ (decimal number ++ (codes ": " ++ text_of why)))
 
--- a call that names no station or no ticket of the session is not made, and its line counts as one that was not read
+-- a call is accepted or refused, or it is not made (its station or its ticket is unknown, or the name or the label that it gives is taken), and then its line counts as one that was not read
 abbrev pub Counted : Result Meaning Reason → Tally → Tally → Type 0
 Counted (Err why) s t = Passes s t
 Counted (Ok nothing) s t = t ≡ s
