@@ -3,7 +3,7 @@ use Rattle.std.proofs.Common.{◌≡◌, ℕ, suc, ◌+◌, ◌-◌, ◌*◌, �
 use borrow.Rule.Slice.PartMut.{put_mid}
 use lib.ListN.{length-replicate}
 use lib.Seq.{set_at, take-append-add}
-use Rattle.std.proofs.lemmas.List.{take_all, drop_all, append-nil, drop-drop, take_at, drop_at, take_rest, take-append-le, take-replicate, drop-replicate, length-take-le}
+use Rattle.std.proofs.lemmas.List.{take_all, drop_all, append-nil, drop-drop, take_at, drop_at, take_rest, take-append-le, take-take, take-replicate, drop-replicate, length-take-le}
 use Rattle.std.proofs.lemmas.Slice.{put_mid-paste}
 use Rattle.block.specs.Bytes.{Bytes, none, more, bytes_of, number_of, block_at, stored_at}
 use Rattle.block.specs.BytesLaws.{zeros_first, stored_whole, length_bytes, bytes_read}
@@ -29,9 +29,10 @@ loaded_tail at room bs p block r s e w =
     ∙ zeros_first (16 - room) p
     ∙ ap number_of (q ∙ sym (take_all 16 (drop at bs) (omega arith)))
 
--- nothing there
-pub loaded_none : (at : ℕ) (bs : List ℕ) → length bs ≤ at → 0 ≡ block_at at bs
-loaded_none at bs h = sym (ap (λ (v : List ℕ). number_of (take 16 v)) (drop_all at bs h))
+-- the first 16 of what begins at a place
+pub loaded_first : (at : ℕ) (bs rest whole : List ℕ) → rest ≡ take (length bs - at) (drop at bs) → whole ≡ take 16 rest → block_at 0 whole ≡ block_at at bs
+loaded_first at bs rest whole r w =
+    ap number_of (ap (take 16) w ∙ take-take 16 16 rest (omega arith) ∙ ap (take 16) (r ∙ take_rest bs at))
 
 -- n bytes written over those from a place on
 paste : (n at : ℕ) (bs p q : List ℕ) → at + n ≤ length bs → p ≡ q → length q ≡ n → put_mid at (at + n - at) bs p ≡ take at bs ++ (q ++ drop (at + n) bs)

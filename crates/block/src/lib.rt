@@ -8,29 +8,26 @@ ghost use Rattle.block.specs.Cut.{before, last_bits, fill_with};
 // A block: 16 bytes read as one number, byte 0 leftmost.
 pub type Block = u128;
 
-// The block of the 16 bytes from a place on.
-fn load_whole(bytes: &[u8], at: usize) -> Block
-    requires { at + 16 ≤ length bytes.now }
-    ensures { result ≡ block_at at bytes.now }
+// The block that 16 bytes spell.
+fn spelled(bytes: [u8; 16]) -> Block
+    ensures { result ≡ block_at 0 bytes }
 {
-    let mut block = [0; 16];
-    block.copy_from_slice(&bytes[at..at + 16]);
-    u128::from_be_bytes(block)
+    u128::from_be_bytes(bytes)
 }
 
 // The number that the 16 bytes from a place on spell, or as many of them as there are.
 pub fn load(bytes: &[u8], at: usize) -> Block
     ensures { result ≡ block_at at bytes.now }
 {
-    let room = bytes.len().saturating_sub(at);
-    if room >= 16 {
-        return load_whole(bytes, at);
+    let Some(rest) = bytes.get(at..) else {
+        return 0;
+    };
+    if let Some(whole) = rest.first_chunk() {
+        return spelled(*whole);
     }
     let mut block = [0; 16];
-    if room > 0 {
-        block[16 - room..].copy_from_slice(&bytes[at..]);
-    }
-    load_whole(&block, 0)
+    block[16 - rest.len()..].copy_from_slice(rest);
+    spelled(block)
 }
 
 // Writes a block over the 16 bytes from a place on, in two halves. A word's bytes are turned around and then written the last first,
@@ -54,8 +51,8 @@ fn bytes_of(block: Block) -> [u8; 16]
     bytes
 }
 
-// Writes the bytes of a block over the 16 from a place on, or over as many of them as there are.
-fn write_over(bytes: &mut [u8], at: usize, block: Block)
+// Writes a block over the 16 bytes from a place on, or over as many of them as there are.
+pub fn store(bytes: &mut [u8], at: usize, block: Block)
     ensures { bytes.new ≡ stored_at at block bytes.old }
 {
     let room = bytes.len().saturating_sub(at);
@@ -64,13 +61,6 @@ fn write_over(bytes: &mut [u8], at: usize, block: Block)
     } else if room > 0 {
         bytes[at..].copy_from_slice(&bytes_of(block)[0..room]);
     }
-}
-
-// Writes a block over the 16 bytes from a place on, or over as many of them as there are.
-pub fn store(bytes: &mut [u8], at: usize, block: Block)
-    ensures { bytes.new ≡ stored_at at block bytes.old }
-{
-    write_over(bytes, at, block);
 }
 
 // How a string is cut: how many blocks come before its last one, where that one begins, and how many bits it has.
@@ -115,5 +105,5 @@ fn filled(byte: u8, piece: &[u8]) -> [u8; 16]
 pub fn fill(byte: u8, piece: &[u8]) -> Block
     ensures { result ≡ fill_with byte piece.now }
 {
-    load_whole(&filled(byte, piece), 0)
+    spelled(filled(byte, piece))
 }

@@ -1,17 +1,16 @@
-use Rattle.std.proofs.Common.{◌≤◌, length, ap, ◌∙◌, arith}
-use Rattle.block.specs.Bytes.{block_at}
-use Rattle.block.proofs.Places.{loaded_tail, loaded_none}
-use Rattle.block.proofs.load.Goals.{then-room-gt0, else-room-gt0}
+use Rattle.std.proofs.Common.{◌<◌, length, refl, ◌∙◌, arith}
+use Rattle.block.proofs.Places.{loaded_first, loaded_tail}
 use Rattle.block.proofs.load.Goals as goal
+
+pub returns-in-Some-first_chunk : goal.returns-in-Some-first_chunk
+returns-in-Some-first_chunk c =
+    c.spelled.ensures
+    ∙ loaded_first c.args.at c.args.bytes.now c.in-Some.rest.now c.in-Some-first_chunk.whole.now
+    c.in-Some.ensures.lookup.0.2 c.in-Some-first_chunk.ensures.cases.same
 
 pub returns : goal.returns
 returns c =
-    elim c.if-room-gt0.branch [
-      | then-room-gt0 w ↦
-          c.load_whole-2.ensures
-          ∙ loaded_tail c.args.at c.saturating_sub-room.result c.args.bytes.now w.copy_from_slice.new.self c.if-room-gt0.block
-          (omega arith) c.if-room-ge16.false w.copy_from_slice.ensures.after w.block-is
-      | else-room-gt0 w ↦
-          let h : length c.args.bytes.now ≤ c.args.at = omega arith in
-          c.load_whole-2.ensures ∙ ap (block_at 0) w.block-is ∙ loaded_none c.args.at c.args.bytes.now h
-    ]
+    let few : length c.in-Some.rest.now < 16 = omega (arith, c.in_default-first_chunk.ensures) in
+    c.spelled-2.ensures
+    ∙ loaded_tail c.args.at (length c.in-Some.rest.now) c.args.bytes.now c.copy_from_slice.new.self _
+    (omega (arith, c.in-Some.ensures.lookup)) few (c.copy_from_slice.ensures.after ∙ c.in-Some.ensures.lookup.0.2) refl

@@ -1,6 +1,6 @@
 use Rattle.std.proofs.Common.{arith}
 use Rattle.block.proofs.Places.{stored_tail, stored_none}
-use Rattle.block.proofs.write_over.Goals as goal
+use Rattle.block.proofs.store.Goals as goal
 
 pub returns-then-room-gt0 : goal.returns-then-room-gt0
 returns-then-room-gt0 c =
