@@ -1,5 +1,5 @@
 -- Rotations as the library writes them, and what one more round does to the lists of keys.
-use Rattle.std.proofs.Common.{◌≡◌, ℕ, zero, suc, ◌+◌, ◌-◌, ◌*◌, ◌/◌, ◌%◌, ◌^◌, ◌<◌, ◌≤◌, List, [], ◌∷◌, ◌++◌, length, get_or, take, drop, set, replicate, sym, refl, ap, ◌∙◌, subst, ap₂, append_assoc, add-one, arith, length-set, drop-cons, take-suc, take-suc-set}
+use Rattle.std.proofs.Common.{◌≡◌, ℕ, zero, suc, ◌+◌, ◌-◌, ◌*◌, ◌/◌, ◌%◌, ◌^◌, ◌<◌, ◌≤◌, List, [], ◌∷◌, ◌++◌, length, get_or, take, drop, set, replicate, sym, refl, ap, ◌∙◌, subst, ap₂, append_assoc, add-one, arith, length-set, drop-cons, take-suc-set}
 use lib.Bits.{bit_or, or_shifted, or_shifted_r}
 use Rattle.std.proofs.lemmas.List.{take_all, drop_all, append-nil}
 use Rattle.cipher.specs.Speck.{right_of, joined, rotated_right, rotated_left, new_left, new_right, round, old_left, old_right, round_back_of, encrypted, decrypted, next_keys, keys_from}
@@ -31,16 +31,16 @@ module _ (w : ℕ) (h : w < 2 ^ 64) where
 abbrev pub Ahead : List ℕ → ℕ → ℕ → ℕ → ℕ → Type 0
 Ahead ks b i x y = (x < 2 ^ 64) × (y < 2 ^ 64) × (encrypted (drop i ks) (joined x y) ≡ encrypted ks b)
 
--- two words from which the rounds back under the first i keys lead to the answer
-abbrev pub Behind : List ℕ → ℕ → ℕ → ℕ → ℕ → Type 0
-Behind ks b i x y = (x < 2 ^ 64) × (y < 2 ^ 64) × (decrypted (take i ks) (joined x y) ≡ decrypted ks b)
+-- two words from which the rounds back under the keys that are left lead to the answer
+abbrev pub Behind : List ℕ → List ℕ → ℕ → ℕ → ℕ → Type 0
+Behind ks left b x y = (x < 2 ^ 64) × (y < 2 ^ 64) × (decrypted left (joined x y) ≡ decrypted ks b)
 
 module _ (ks : List ℕ) (x y : ℕ) (hx : x < 2 ^ 64) (hy : y < 2 ^ 64) where
   pub ahead_first : Ahead ks (joined x y) 0 x y
   ahead_first = (hx, hy, refl)
 
-  pub behind_first : (n : ℕ) → length ks ≤ n → Behind ks (joined x y) n x y
-  behind_first n l = (hx, hy, ap (λ (v : List ℕ). decrypted v (joined x y)) (take_all n ks l))
+  pub behind_first : Behind ks ks (joined x y) x y
+  behind_first = (hx, hy, refl)
 
 module _ (ks : List ℕ) (fit : (i : ℕ) → get_or ks i 0 < 2 ^ 64) (b i x y x' y' : ℕ) where
   pub ahead_more : i < length ks → x' ≡ new_left (get_or ks i 0) x y → y' ≡ new_right x' y → Ahead ks b i x y → Ahead ks b (i + 1) x' y'
@@ -59,39 +59,47 @@ unfolding decrypted
 last_back [] k b = refl
 last_back (j ∷ ks) k b = ap (round_back_of j) (last_back ks k b)
 
-module _ (ks : List ℕ) (fit : (i : ℕ) → get_or ks i 0 < 2 ^ 64) (b i x y x' y' : ℕ) where
-  pub behind_more : 0 < i → i ≤ length ks → x' ≡ old_left (get_or ks (i - 1) 0) x y' → y' ≡ old_right x y → Behind ks b i x y → Behind ks b (i - 1) x' y'
-  behind_more p l e f (hx, hy, r) =
-      let k : ℕ = get_or ks (i - 1) 0 in
-      let ly : y' < 2 ^ 64 = subst (λ (n : ℕ). n < 2 ^ 64) (sym f) (old_right_fits k x y (fit (i - 1)) hx hy) in
-      let lx : x' < 2 ^ 64 = subst (λ (n : ℕ). n < 2 ^ 64) (sym e) (old_left_fits k x y' (fit (i - 1)) hx ly) in
+module _ (ks left left' : List ℕ) (k b x y x' y' : ℕ) where
+  pub behind_more : k < 2 ^ 64 → left ≡ left' ++ k ∷ [] → x' ≡ old_left k x y' → y' ≡ old_right x y → Behind ks left b x y → Behind ks left' b x' y'
+  behind_more fit d e f (hx, hy, r) =
+      let ly : y' < 2 ^ 64 = subst (λ (n : ℕ). n < 2 ^ 64) (sym f) (old_right_fits k x y fit hx hy) in
+      let lx : x' < 2 ^ 64 = subst (λ (n : ℕ). n < 2 ^ 64) (sym e) (old_left_fits k x y' fit hx ly) in
       let q : round_back_of k (joined x y) ≡ joined x' y' =
-      back_joined x y hx hy k ∙ ap (λ (v : ℕ). joined (old_left k x v) v) (sym f) ∙ ap (λ (u : ℕ). joined u y') (sym e) in
-      let s : suc (i - 1) ≡ i = omega arith in
-      let d : take i ks ≡ take (i - 1) ks ++ k ∷ [] = ap (λ (n : ℕ). take n ks) (sym s) ∙ take-suc ks (i - 1) 0 (omega arith) in (
+      back_joined x y hx hy k ∙ ap (λ (v : ℕ). joined (old_left k x v) v) (sym f) ∙ ap (λ (u : ℕ). joined u y') (sym e) in (
         lx,
         ly,
-        sym (ap (λ (v : List ℕ). decrypted v (joined x y)) d ∙ last_back (take (i - 1) ks) k (joined x y) ∙ ap (decrypted (take (i - 1) ks)) q) ∙ r,
+        sym (ap (λ (v : List ℕ). decrypted v (joined x y)) d ∙ last_back left' k (joined x y) ∙ ap (decrypted left') q) ∙ r,
       )
 
 pub ahead_done : (ks : List ℕ) (b i x y : ℕ) → length ks ≤ i → Ahead ks b i x y → joined x y ≡ encrypted ks b
 unfolding encrypted
 ahead_done ks b i x y l (hx, hy, r) = sym (ap (λ (v : List ℕ). encrypted v (joined x y)) (drop_all i ks l)) ∙ r
 
-pub behind_done : (ks : List ℕ) (b i x y : ℕ) → i ≡ 0 → Behind ks b i x y → joined x y ≡ decrypted ks b
+pub behind_done : (ks left : List ℕ) (b x y : ℕ) → length left ≡ 0 → Behind ks left b x y → joined x y ≡ decrypted ks b
 unfolding decrypted
-behind_done ks b i x y z (hx, hy, r) = sym (ap (λ (n : ℕ). decrypted (take n ks) (joined x y)) z) ∙ r
+behind_done ks [] b x y z (hx, hy, r) = r
+behind_done ks (k ∷ left) b x y z i = absurd (omega arith)
 
--- the keys so far, and the words that lead to the others
+-- n keys from the words on, which begin with the words' own
+abbrev keys_after : ℕ → ℕ → ℕ → List ℕ
+keys_after zero i w = []
+keys_after (suc n) i w = right_of w ∷ next_keys n i w
+
+keys_next : (n i w : ℕ) → next_keys n i w ≡ keys_after n (suc i) (round i w)
+unfolding next_keys
+keys_next zero i w = refl
+keys_next (suc n) i w = refl
+
+-- the first i keys, and the words whose rounds give the others
 abbrev pub Expanding : ℕ → List ℕ → ℕ → ℕ → ℕ → Type 0
-Expanding b ks i x y = (length ks ≡ 32) × (x < 2 ^ 64) × (y < 2 ^ 64) × (take (i + 1) ks ++ next_keys (31 - i) i (joined x y) ≡ keys_from b)
+Expanding b ks i x y = (length ks ≡ 32) × (x < 2 ^ 64) × (y < 2 ^ 64) × (take i ks ++ keys_after (32 - i) i (joined x y) ≡ keys_from b)
 
-pub expanding_first : (x y : ℕ) → x < 2 ^ 64 → y < 2 ^ 64 → Expanding (joined x y) (replicate 32 y) 0 x y
+pub expanding_first : (x y : ℕ) → x < 2 ^ 64 → y < 2 ^ 64 → Expanding (joined x y) (replicate 32 0) 0 x y
 unfolding keys_from
-expanding_first x y hx hy = (refl, hx, hy, ap (λ (w : ℕ). w ∷ next_keys 31 0 (joined x y)) (sym (right-joined x y hx hy)))
+expanding_first x y hx hy = (refl, hx, hy, refl)
 
 module _ (b i x y x' y' : ℕ) (ks : List ℕ) where
-  pub expanding_more : i < 31 → x' ≡ new_left i x y → y' ≡ new_right x' y → Expanding b ks i x y → Expanding b (set ks (i + 1) y') (i + 1) x' y'
+  pub expanding_more : i < 32 → x' ≡ new_left i x y → y' ≡ new_right x' y → Expanding b ks i x y → Expanding b (set ks i y) (i + 1) x' y'
   unfolding next_keys
   expanding_more l e f (n, hx, hy, r) =
       let hi : i < 2 ^ 64 = omega arith in
@@ -99,26 +107,25 @@ module _ (b i x y x' y' : ℕ) (ks : List ℕ) where
       let ly : y' < 2 ^ 64 = subst (λ (m : ℕ). m < 2 ^ 64) (sym f) (right_fits i x' y hi lx hy) in
       let q : round i (joined x y) ≡ joined x' y' =
       round-joined x y hx hy i ∙ ap (λ (u : ℕ). joined u (new_right u y)) (sym e) ∙ ap (joined x') (sym f) in
-      let s : 31 - i ≡ suc (31 - (i + 1)) = omega arith in
-      let k : next_keys (31 - i) i (joined x y) ≡ y' ∷ next_keys (31 - (i + 1)) (i + 1) (joined x' y') =
-      ap (λ (m : ℕ). next_keys m i (joined x y)) s
-      ∙ ap (λ (w : ℕ). right_of w ∷ next_keys (31 - (i + 1)) (suc i) w) q
-      ∙ ap₂ (λ (u j : ℕ). u ∷ next_keys (31 - (i + 1)) j (joined x' y')) (right-joined x' y' lx ly) (sym (add-one i)) in
-      let t : take (i + 1 + 1) (set ks (i + 1) y') ≡ take (i + 1) ks ++ y' ∷ [] =
-      ap (λ (m : ℕ). take m (set ks (i + 1) y')) (add-one (i + 1)) ∙ take-suc-set ks (i + 1) y' (omega arith) in (
-        length-set ks (i + 1) y' ∙ n,
+      let s : 32 - i ≡ suc (32 - (i + 1)) = omega arith in
+      let k : keys_after (32 - i) i (joined x y) ≡ y ∷ keys_after (32 - (i + 1)) (i + 1) (joined x' y') =
+      ap (λ (m : ℕ). keys_after m i (joined x y)) s
+      ∙ ap (λ (u : ℕ). u ∷ next_keys (32 - (i + 1)) i (joined x y)) (right-joined x y hx hy)
+      ∙ ap (λ (v : List ℕ). y ∷ v) (keys_next (32 - (i + 1)) i (joined x y) ∙ ap₂ (λ (w j : ℕ). keys_after (32 - (i + 1)) j w) q (sym (add-one i))) in
+      let t : take (i + 1) (set ks i y) ≡ take i ks ++ y ∷ [] =
+      ap (λ (m : ℕ). take m (set ks i y)) (add-one i) ∙ take-suc-set ks i y (omega arith) in (
+        length-set ks i y ∙ n,
         lx,
         ly,
-        ap (λ (v : List ℕ). v ++ next_keys (31 - (i + 1)) (i + 1) (joined x' y')) t
-            ∙ append_assoc (take (i + 1) ks) (y' ∷ []) (next_keys (31 - (i + 1)) (i + 1) (joined x' y'))
-            ∙ ap (λ (v : List ℕ). take (i + 1) ks ++ v) (sym k)
+        ap (λ (v : List ℕ). v ++ keys_after (32 - (i + 1)) (i + 1) (joined x' y')) t
+            ∙ append_assoc (take i ks) (y ∷ []) (keys_after (32 - (i + 1)) (i + 1) (joined x' y'))
+            ∙ ap (λ (v : List ℕ). take i ks ++ v) (sym k)
             ∙ r,
       )
 
-pub expanding_done : (b i x y : ℕ) (ks : List ℕ) → i ≡ 31 → Expanding b ks i x y → ks ≡ keys_from b
-unfolding next_keys
+pub expanding_done : (b i x y : ℕ) (ks : List ℕ) → i ≡ 32 → Expanding b ks i x y → ks ≡ keys_from b
 expanding_done b i x y ks e (n, hx, hy, r) =
-    sym (ap (λ (m : ℕ). take (m + 1) ks ++ next_keys (31 - m) m (joined x y)) e ∙ append-nil (take 32 ks) ∙ take_all 32 ks (omega arith)) ∙ r
+    sym (ap (λ (m : ℕ). take m ks ++ keys_after (32 - m) m (joined x y)) e ∙ append-nil (take 32 ks) ∙ take_all 32 ks (omega arith)) ∙ r
 
 next_fit : (n j b i : ℕ) → get_or (next_keys n j b) i 0 < 2 ^ 64
 unfolding next_keys
@@ -131,5 +138,5 @@ unfolding keys_from
 keys_fit b zero = omega arith
 keys_fit b (suc i) = next_fit 31 0 b i
 
-pub expanded_fit : (b i x y : ℕ) (ks : List ℕ) → i ≡ 31 → Expanding b ks i x y → (j : ℕ) → get_or ks j 0 < 2 ^ 64
+pub expanded_fit : (b i x y : ℕ) (ks : List ℕ) → i ≡ 32 → Expanding b ks i x y → (j : ℕ) → get_or ks j 0 < 2 ^ 64
 expanded_fit b i x y ks e r j = subst (λ (v : List ℕ). get_or v j 0 < 2 ^ 64) (sym (expanding_done b i x y ks e r)) (keys_fit b j)

@@ -1,5 +1,5 @@
 -- Speck128/128, as its designers define it: two words of 64 bits, 32 rounds, and a key schedule that runs the same round.
-use Rattle.std.specs.Prelude.{ℕ, zero, suc, ◌+◌, ◌-◌, ◌*◌, ◌/◌, ◌%◌, ◌^◌, List, [], ◌∷◌, bit_xor}
+use Rattle.std.specs.Prelude.{◌≡◌, ℕ, zero, suc, ◌+◌, ◌-◌, ◌*◌, ◌/◌, ◌%◌, ◌^◌, List, [], ◌∷◌, bit_xor}
 use Rattle.block.specs.Bytes.{block_at}
 
 -- a block is its left word, then its right word
@@ -11,6 +11,12 @@ right_of b = b % 2 ^ 64
 
 abbrev pub joined : ℕ → ℕ → ℕ
 joined x y = x * 2 ^ 64 + y
+
+-- x and y are the two words of a block
+pub record IsWordsOf (b x y : ℕ) : Type 0 where
+  pub left : x ≡ left_of b
+  pub right : y ≡ right_of b
+  pub whole : joined x y ≡ b
 
 -- a word with its n low bits moved to the top
 abbrev pub rotated_right : ℕ → ℕ → ℕ

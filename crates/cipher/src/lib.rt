@@ -2,7 +2,7 @@
 #![tactic(auto)]
 
 ghost use Rattle.std.specs.Prelude.{◌≡◌, ℕ};
-ghost use Rattle.block.specs.Maps.{IsBlock, Undo, same, undo_same, undo_swap};
+ghost use Rattle.block.specs.Maps.{Undo, same, undo_same, undo_swap};
 
 mod speck;
 
@@ -66,16 +66,9 @@ impl<C: Cipher> Cipher for Inverse<C> {
     }
 }
 
-// The block that was encrypted.
-fn undo<C: Cipher>(cipher: &C, encrypted: Block) -> Block
-    ensures { (x : ℕ) → IsBlock x → encrypted ≡ C.forward cipher.now x → result ≡ x }
-{
-    cipher.decrypt(encrypted)
-}
-
 // Encrypts a block and decrypts it again: the block, whatever the cipher.
 pub fn there_and_back<C: Cipher>(cipher: &C, block: Block) -> Block
     ensures { result ≡ block }
 {
-    undo(cipher, cipher.encrypt(block))
+    cipher.decrypt(cipher.encrypt(block))
 }

@@ -1,6 +1,6 @@
 // Speck128/128: 32 rounds over two words of 64 bits.
 ghost use Rattle.std.specs.Prelude.{◌≡◌, ℕ, ◌^◌, ◌<◌, slice_index};
-ghost use Rattle.cipher.specs.Speck.{left_of, right_of, joined, new_left, new_right, old_left, old_right, encrypted, decrypted, keys_from, round_keys};
+ghost use Rattle.cipher.specs.Speck.{IsWordsOf, joined, new_left, new_right, old_left, old_right, encrypted, decrypted, keys_from, round_keys};
 ghost use Rattle.cipher.specs.SpeckLaws.{speck_undo};
 
 use super::Cipher;
@@ -15,24 +15,26 @@ struct Words {
     right: u64,
 }
 
-impl Words {
-    fn of(block: Block) -> Words
-        ensures left { result.left ≡ left_of block }
-        ensures right { result.right ≡ right_of block }
-        ensures whole { joined result.left result.right ≡ block }
-    {
+impl From<Block> for Words {
+    ghost from_gives = { λ b w. IsWordsOf b w.left w.right };
+
+    fn from(block: Block) -> Words {
         Words {
             left: (block >> 64) as u64,
             right: (block % (1 << 64)) as u64,
         }
     }
+}
 
-    fn block(self) -> Block
-        ensures { result ≡ joined self.left self.right }
-    {
-        (u128::from(self.left) << 64) + u128::from(self.right)
+impl From<Words> for Block {
+    ghost from_gives = { λ w b. b ≡ joined w.left w.right };
+
+    fn from(words: Words) -> Block {
+        (u128::from(words.left) << 64) + u128::from(words.right)
     }
+}
 
+impl Words {
     // One round under a round key.
     fn round(self, key: u64) -> Words
         ensures left { result.left ≡ new_left key self.left self.right }
@@ -59,11 +61,11 @@ fn expand(key: Block) -> [u64; ROUNDS]
     ensures keys { result ≡ keys_from key }
     ensures fit { (i : ℕ) → slice_index result i < 2 ^ 64 }
 {
-    let mut words = Words::of(key);
-    let mut keys = [words.right; ROUNDS];
-    for i in 0..ROUNDS - 1 {
+    let mut words = Words::from(key);
+    let mut keys = [0; ROUNDS];
+    for (i, round_key) in keys.iter_mut().enumerate() {
+        *round_key = words.right;
         words = words.round(i as u64);
-        keys[i + 1] = words.right;
     }
     keys
 }
@@ -89,8 +91,8 @@ impl Speck {
     fn rounds(&self, mut words: Words) -> Words
         ensures { joined result.left result.right ≡ encrypted self.now.keys (joined words.left words.right) }
     {
-        for i in 0..ROUNDS {
-            words = words.round(self.keys[i]);
+        for key in &self.keys {
+            words = words.round(*key);
         }
         words
     }
@@ -99,8 +101,8 @@ impl Speck {
     fn rounds_back(&self, mut words: Words) -> Words
         ensures { joined result.left result.right ≡ decrypted self.now.keys (joined words.left words.right) }
     {
-        for i in (0..ROUNDS).rev() {
-            words = words.round_back(self.keys[i]);
+        for key in self.keys.iter().rev() {
+            words = words.round_back(*key);
         }
         words
     }
@@ -114,10 +116,10 @@ impl Cipher for Speck {
     ghost laws = { λ c. speck_undo c.keys c.fit };
 
     fn encrypt(&self, block: Block) -> Block {
-        self.rounds(Words::of(block)).block()
+        self.rounds(block.into()).into()
     }
 
     fn decrypt(&self, block: Block) -> Block {
-        self.rounds_back(Words::of(block)).block()
+        self.rounds_back(block.into()).into()
     }
 }

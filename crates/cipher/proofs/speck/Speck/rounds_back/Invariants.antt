@@ -2,5 +2,5 @@ use Rattle.cipher.specs.Speck.{joined}
 use Rattle.cipher.proofs.Rounds.{Behind}
 use Rattle.cipher.proofs.speck.Speck.rounds_back.Given as goal
 
-abbrev pub invariant-loop-i : goal.invariant-loop-i
-invariant-loop-i l = Behind l.self.keys (joined l.initial.words.left l.initial.words.right) l.i l.words.left l.words.right
+abbrev pub invariant-loop-key : goal.invariant-loop-key
+invariant-loop-key l = Behind l.self.keys l.key-iterator.iter.rest.now (joined l.initial.words.left l.initial.words.right) l.words.left l.words.right
