@@ -6,7 +6,6 @@ ghost use Rattle.std.specs.Int.Bits.{bit_xor};
 ghost use Rattle.gf256.specs.Column.{coefficient, mixing, mixing_back};
 ghost use Rattle.gf256.specs.Field.{times_x_of, inverse, IsInverse};
 ghost use Rattle.gf256.specs.Substitution.{substituted, restored};
-ghost use Rattle.gf256.specs.Tables.{substitutes, originals};
 
 mod inverse_table;
 mod table;
@@ -14,36 +13,19 @@ mod table;
 use inverse_table::ORIGINALS;
 use table::SUBSTITUTES;
 
-// The byte that stands for a byte, from the table.
-fn substitute_by(table: &[u8; 256], b: u8) -> u8
-    requires { table.now ≡ substitutes }
-    ensures value { result ≡ substituted b }
-    ensures inverse { IsInverse b (inverse b) }
-{
-    table[b as usize]
-}
-
-// The byte that a byte stands for, from the table.
-fn restore_by(table: &[u8; 256], b: u8) -> u8
-    requires { table.now ≡ originals }
-    ensures { result ≡ restored b }
-{
-    table[b as usize]
-}
-
 // The byte that stands for a byte: its inverse in the field, and then a map of its bits.
 pub fn substitute(b: u8) -> u8
     ensures value { result ≡ substituted b }
     ensures inverse { IsInverse b (inverse b) }
 {
-    substitute_by(&SUBSTITUTES, b)
+    SUBSTITUTES[b as usize]
 }
 
 // The byte that a byte stands for.
 pub fn restore(b: u8) -> u8
     ensures { result ≡ restored b }
 {
-    restore_by(&ORIGINALS, b)
+    ORIGINALS[b as usize]
 }
 
 // A byte times x: shifted left by one bit, with 0x1b added if a one was shifted out.
@@ -53,32 +35,20 @@ pub fn times_x(a: u8) -> u8
     (a << 1) ^ (0x1b * (a >> 7))
 }
 
-// Twice a, three times b, c and d, added: by one doubling of a + b.
-fn mixed(a: u8, b: u8, c: u8, d: u8) -> u8
+// A byte of a mixed column, from the column's bytes in their order from that place on: twice a, three times b, c and d, added, by one
+// doubling of a + b.
+pub fn mix_byte(a: u8, b: u8, c: u8, d: u8) -> u8
     ensures { result ≡ coefficient mixing a b c d }
 {
     times_x(a ^ b) ^ (b ^ (c ^ d))
 }
 
-// The multiples of a by 14, b by 11, c by 13 and d by 9, added: by three doublings, the highest power of x first.
-fn unmixed(a: u8, b: u8, c: u8, d: u8) -> u8
+// A byte of the column that a mixed one came from, in the same order: the multiples of a by 14, b by 11, c by 13 and d by 9, added, by
+// three doublings, the highest power of x first.
+pub fn unmix_byte(a: u8, b: u8, c: u8, d: u8) -> u8
     ensures { result ≡ coefficient mixing_back a b c d }
 {
     let eight = times_x((a ^ b) ^ (c ^ d));
     let four = times_x(eight ^ (a ^ c));
     times_x(four ^ (a ^ b)) ^ (b ^ (c ^ d))
-}
-
-// A byte of a mixed column, from the column's bytes in their order from that place on.
-pub fn mix_byte(a: u8, b: u8, c: u8, d: u8) -> u8
-    ensures { result ≡ coefficient mixing a b c d }
-{
-    mixed(a, b, c, d)
-}
-
-// A byte of the column that a mixed one came from, in the same order.
-pub fn unmix_byte(a: u8, b: u8, c: u8, d: u8) -> u8
-    ensures { result ≡ coefficient mixing_back a b c d }
-{
-    unmixed(a, b, c, d)
 }
