@@ -9,6 +9,7 @@ ghost use Rattle.capi.specs.Codes.{refusal, frame_code_of, not_made_code};
 use aes::Aes128;
 use cipher::{Cipher, Speck};
 use frame::FrameFault;
+use layer::Refusal;
 use masking::Masking;
 use mode::Pair;
 

@@ -8,6 +8,7 @@ ghost use Rattle.capi.specs.Answers.{ModeSealed, ModeOpened, Asks, Asked, Called
 use crate::{Choice, CipherChoice, MaskingChoice, NotMade, key_of, refusal, with_aes, with_speck};
 use block::{load, store};
 use cipher::Cipher;
+use layer::Refusal;
 use masking::{Doubling, Masking, Tower};
 use mode::{Mode, Pair};
 

@@ -1,12 +1,12 @@
 // Why a frame is refused.
 ghost use Rattle.std.specs.Prelude.{◌≡◌, Some};
 ghost use Rattle.layer.specs.Lines.{line_of};
-ghost use Rattle.frame.specs.declared.fault.FrameFault.TheVariants.{Sealing};
+ghost use Rattle.frame.specs.declared.fault.FrameFault.TheVariants.{Sealing, UnknownMode as unknown_mode};
 ghost use Rattle.frame.specs.Fields.{field_place};
-ghost use Rattle.frame.specs.Faults.{number_of, place_of, layer_of, reason_of};
+ghost use Rattle.frame.specs.Faults.{number_of as frame_number, place_of as frame_place, layer_of as frame_layer, reason_of as frame_reason};
 
-use layer::{Layer, Line};
-use mode::ModeFault;
+use layer::{Layer, Line, Refusal};
+use mode::{ModeFault, UnknownMode};
 use std::fmt;
 
 // A head field that has a rule, by the place of its first byte.
@@ -33,7 +33,7 @@ pub enum HeadField {
 }
 
 impl HeadField {
-    // The place of the field's first byte.
+    // The place of the field's first byte. A method and no `From`: a caller reads what the number is.
     pub fn place(self) -> u8
         ensures { result ≡ field_place self }
     {
@@ -69,11 +69,26 @@ impl From<ModeFault> for FrameFault {
     }
 }
 
-impl FrameFault {
-    // The refusal's number.
-    pub fn number(self) -> u8
-        ensures { result ≡ number_of self }
-    {
+// A byte that is no mode's number.
+impl From<UnknownMode> for FrameFault {
+    ghost from_gives = { λ _ r. r ≡ unknown_mode };
+
+    fn from(_: UnknownMode) -> FrameFault {
+        Self::UnknownMode
+    }
+}
+
+// A refusal of the mode says what the mode says.
+impl Refusal for FrameFault {
+    ghost number_of = { frame_number };
+
+    ghost place_of = { frame_place };
+
+    ghost layer_of = { frame_layer };
+
+    ghost reason_of = { frame_reason };
+
+    fn number(&self) -> u8 {
         match self {
             FrameFault::UnknownMode => 7,
             FrameFault::ClearTooLong => 8,
@@ -86,10 +101,7 @@ impl FrameFault {
         }
     }
 
-    // The place in the frame that it names, or 0.
-    pub fn place(self) -> u8
-        ensures { result ≡ place_of self }
-    {
+    fn place(&self) -> u8 {
         match self {
             FrameFault::BadField(field) => field.place(),
             FrameFault::Sealing(fault) => fault.place(),
@@ -97,23 +109,15 @@ impl FrameFault {
         }
     }
 
-    // The layer where it arose.
-    pub fn layer(self) -> Layer
-        ensures { result ≡ layer_of self }
-    {
+    fn layer(&self) -> Layer {
         match self {
             FrameFault::Sealing(fault) => fault.layer(),
             _ => Layer::Frame,
         }
     }
-}
 
-// A refusal of the mode is written as the mode writes it.
-impl fmt::Display for FrameFault {
-    ghost output = { λ fault. Some (line_of (number_of fault) (place_of fault) (layer_of fault) (reason_of fault)) };
-
-    fn fmt<W: fmt::Write>(&self, f: &mut fmt::Formatter<W>) -> fmt::Result {
-        let reason = match *self {
+    fn reason(&self) -> &'static str {
+        match self {
             FrameFault::UnknownMode => "the mode is neither 1 nor 2",
             FrameFault::ClearTooLong => "the clear part is above 1024 bytes",
             FrameFault::MessageTooLong => "the message is above 1024 bytes",
@@ -121,14 +125,15 @@ impl fmt::Display for FrameFault {
             FrameFault::FrameShort => "the frame is below 48 bytes",
             FrameFault::BadField(_) => "a field of the head breaks its rule",
             FrameFault::FrameLength => "the frame does not end where its tag does",
-            FrameFault::Sealing(fault) => return write!(f, "{fault}"),
-        };
-        let line = Line {
-            number: self.number(),
-            place: self.place(),
-            layer: self.layer(),
-            reason,
-        };
-        write!(f, "{line}")
+            FrameFault::Sealing(fault) => fault.reason(),
+        }
+    }
+}
+
+impl fmt::Display for FrameFault {
+    ghost output = { λ fault. Some (line_of (frame_number fault) (frame_place fault) (frame_layer fault) (frame_reason fault)) };
+
+    fn fmt<W: fmt::Write>(&self, f: &mut fmt::Formatter<W>) -> fmt::Result {
+        Line::of(self).fmt(f)
     }
 }

@@ -124,9 +124,7 @@ pub fn parts(frame: &[u8]) -> Result<FrameParts<'_>, FrameFault>
     if frame.len() < 48 {
         return Err(FrameFault::FrameShort);
     }
-    let Some(mode) = Mode::of(frame[0]) else {
-        return Err(FrameFault::UnknownMode);
-    };
+    let mode = Mode::try_from(frame[0])?;
     if let Some(field) = bad_field(frame) {
         return Err(FrameFault::BadField(field));
     }

@@ -35,7 +35,7 @@ fn head(mode: Mode, clear: usize, message: usize, sender: u8, number: u64) -> [u
     let [t1, t0] = (32 + clear as u16 + message as u16).to_be_bytes();
     let [n5, n4, n3, n2, n1, n0] = low_bytes(number);
     [
-        mode.value(),
+        u8::from(mode),
         0,
         c1,
         c0,
@@ -109,9 +109,7 @@ pub fn seal<C: Cipher, M: Masking>(
     ensures gives { FrameSeals (maps_of C.forward C.backward M.onward M.inward pair.now) sender number mode clear.now message.now out.old out.new result }
     ensures seals { SealsFrame (maps_of C.forward C.backward M.onward M.inward pair.now) sender number clear.now message.now out.new result }
 {
-    let Some(mode) = Mode::of(mode) else {
-        return Err(FrameFault::UnknownMode);
-    };
+    let mode = Mode::try_from(mode)?;
     if clear.len() > LONGEST {
         return Err(FrameFault::ClearTooLong);
     }

@@ -1,4 +1,4 @@
-// The layers in which a refusal can arise.
+// The layers in which a refusal can arise, what a refusal says, and how it is written.
 #![tactic(auto)]
 
 ghost use Rattle.std.specs.Prelude.{◌≡◌, Some};
@@ -7,8 +7,10 @@ ghost use Rattle.layer.specs.Layers.{value_of, name_of};
 use std::fmt;
 
 mod line;
+mod refusal;
 
 pub use line::Line;
+pub use refusal::Refusal;
 
 // The layer where a refusal arose: the sealing mode, the frame or the station.
 #[derive(Clone, Copy, PartialEq, Eq, Debug)]
@@ -18,12 +20,12 @@ pub enum Layer {
     Station = 3,
 }
 
-impl Layer {
-    // The layer's number, counted from the bottom.
-    pub fn value(self) -> u8
-        ensures { result ≡ value_of self }
-    {
-        self as u8
+// The layer's number, counted from the bottom.
+impl From<Layer> for u8 {
+    ghost from_gives = { λ layer value. value ≡ value_of layer };
+
+    fn from(layer: Layer) -> u8 {
+        layer as u8
     }
 }
 
@@ -32,10 +34,10 @@ impl fmt::Display for Layer {
     ghost output = { λ layer. Some (name_of layer) };
 
     fn fmt<W: fmt::Write>(&self, f: &mut fmt::Formatter<W>) -> fmt::Result {
-        match self {
-            Layer::Mode => f.write_str("mode"),
-            Layer::Frame => f.write_str("frame"),
-            Layer::Station => f.write_str("station"),
-        }
+        f.write_str(match self {
+            Layer::Mode => "mode",
+            Layer::Frame => "frame",
+            Layer::Station => "station",
+        })
     }
 }

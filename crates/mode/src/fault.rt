@@ -1,9 +1,9 @@
 // Why a mode refuses.
-ghost use Rattle.std.specs.Prelude.{◌≡◌, Some};
+ghost use Rattle.std.specs.Prelude.{Some};
 ghost use Rattle.layer.specs.Lines.{line_of};
-ghost use Rattle.mode.specs.Faults.{number_of, place_of, layer_of, reason_of};
+ghost use Rattle.mode.specs.Faults.{number_of as mode_number, place_of as mode_place, layer_of as mode_layer, reason_of as mode_reason};
 
-use layer::{Layer, Line};
+use layer::{Layer, Line, Refusal};
 use std::fmt;
 
 #[derive(Clone, Copy, PartialEq, Eq, Debug)]
@@ -14,35 +14,31 @@ pub enum ModeFault {
     NotSealed,
 }
 
-impl ModeFault {
-    // The refusal's number.
-    pub fn number(self) -> u8
-        ensures { result ≡ number_of self }
-    {
+impl Refusal for ModeFault {
+    ghost number_of = { mode_number };
+
+    ghost place_of = { mode_place };
+
+    ghost layer_of = { mode_layer };
+
+    ghost reason_of = { mode_reason };
+
+    fn number(&self) -> u8 {
         match self {
             ModeFault::OutputLength => 1,
             ModeFault::NotSealed => 2,
         }
     }
 
-    // The place in the frame that it names: none here.
-    pub fn place(self) -> u8
-        ensures { result ≡ place_of self }
-    {
+    fn place(&self) -> u8 {
         0
     }
 
-    // The layer where it arose.
-    pub fn layer(self) -> Layer
-        ensures { result ≡ layer_of self }
-    {
+    fn layer(&self) -> Layer {
         Layer::Mode
     }
 
-    // Why, in plain words.
-    fn reason(self) -> &'static str
-        ensures { result.now ≡ reason_of self }
-    {
+    fn reason(&self) -> &'static str {
         match self {
             ModeFault::OutputLength => "the output buffer is not of the message's length",
             ModeFault::NotSealed => "no message seals to these bytes",
@@ -51,15 +47,9 @@ impl ModeFault {
 }
 
 impl fmt::Display for ModeFault {
-    ghost output = { λ fault. Some (line_of (number_of fault) (place_of fault) (layer_of fault) (reason_of fault)) };
+    ghost output = { λ fault. Some (line_of (mode_number fault) (mode_place fault) (mode_layer fault) (mode_reason fault)) };
 
     fn fmt<W: fmt::Write>(&self, f: &mut fmt::Formatter<W>) -> fmt::Result {
-        let line = Line {
-            number: self.number(),
-            place: self.place(),
-            layer: self.layer(),
-            reason: self.reason(),
-        };
-        write!(f, "{line}")
+        Line::of(self).fmt(f)
     }
 }

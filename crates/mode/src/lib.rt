@@ -7,4 +7,4 @@ mod value;
 
 pub use fault::ModeFault;
 pub use pair::Pair;
-pub use value::Mode;
+pub use value::{Mode, UnknownMode};

@@ -1,6 +1,6 @@
 // The two modes and their numbers.
-ghost use Rattle.std.specs.Prelude.{◌≡◌, Some, None, ◌≢◌};
-ghost use Rattle.mode.specs.Values.{mode_value, other_of};
+ghost use Rattle.std.specs.Prelude.{◌≡◌};
+ghost use Rattle.mode.specs.Values.{mode_value, other_of, Decodes};
 
 // Which of the two modes: the forward one seals by the cipher's forward map, its dual by the backward one.
 #[derive(Clone, Copy, PartialEq, Eq, Debug)]
@@ -9,25 +9,35 @@ pub enum Mode {
     Dual = 2,
 }
 
-impl Mode {
-    // The mode's number.
-    pub fn value(self) -> u8
-        ensures { result ≡ mode_value self }
-    {
-        self as u8
-    }
+// A number that no mode has.
+#[derive(Clone, Copy, PartialEq, Eq, Debug)]
+pub struct UnknownMode;
 
-    // The mode of a number, if there is one.
-    pub fn of(value: u8) -> Option<Mode>
-        ensures { elim result [ Some mode ↦ value ≡ mode_value mode | None ↦ (value ≢ 1) × (value ≢ 2) ] }
-    {
+// The mode's number.
+impl From<Mode> for u8 {
+    ghost from_gives = { λ mode value. value ≡ mode_value mode };
+
+    fn from(mode: Mode) -> u8 {
+        mode as u8
+    }
+}
+
+// The mode of a number, if there is one.
+impl TryFrom<u8> for Mode {
+    type Error = UnknownMode;
+
+    ghost try_from_gives = { Decodes };
+
+    fn try_from(value: u8) -> Result<Mode, UnknownMode> {
         match value {
-            1 => Some(Mode::Forward),
-            2 => Some(Mode::Dual),
-            _ => None,
+            1 => Ok(Mode::Forward),
+            2 => Ok(Mode::Dual),
+            _ => Err(UnknownMode),
         }
     }
+}
 
+impl Mode {
     // The mode whose map on blocks undoes this one's.
     pub fn other(self) -> Mode
         ensures { result ≡ other_of self }

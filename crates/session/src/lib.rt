@@ -10,6 +10,7 @@ ghost use Rattle.session.specs.Replies.{lined, output_text, refusal_of};
 mod calls;
 
 use cipher::Cipher;
+use layer::Refusal;
 use masking::Masking;
 use script::{
     Answer, CipherSetting, MaskingSetting, OutLine, PartsLine, PlainSetting, Tally, Unread,

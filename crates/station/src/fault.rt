@@ -2,10 +2,10 @@
 ghost use Rattle.std.specs.Prelude.{◌≡◌, Some};
 ghost use Rattle.layer.specs.Lines.{line_of};
 ghost use Rattle.station.specs.declared.fault.StationFault.TheVariants.{Frame};
-ghost use Rattle.station.specs.Faults.{number_of, place_of, layer_of, reason_of};
+ghost use Rattle.station.specs.Faults.{number_of as station_number, place_of as station_place, layer_of as station_layer, reason_of as station_reason};
 
 use frame::FrameFault;
-use layer::{Layer, Line};
+use layer::{Layer, Line, Refusal};
 use std::fmt;
 
 #[derive(Clone, Copy, PartialEq, Eq, Debug)]
@@ -34,11 +34,17 @@ impl From<FrameFault> for StationFault {
     }
 }
 
-impl StationFault {
-    // The refusal's number.
-    pub fn number(self) -> u8
-        ensures { result ≡ number_of self }
-    {
+// A refusal of the frame or the mode says what they say.
+impl Refusal for StationFault {
+    ghost number_of = { station_number };
+
+    ghost place_of = { station_place };
+
+    ghost layer_of = { station_layer };
+
+    ghost reason_of = { station_reason };
+
+    fn number(&self) -> u8 {
         match self {
             StationFault::SameId => 3,
             StationFault::BadNumber => 4,
@@ -50,10 +56,7 @@ impl StationFault {
         }
     }
 
-    // The place in the frame that it names, or 0.
-    pub fn place(self) -> u8
-        ensures { result ≡ place_of self }
-    {
+    fn place(&self) -> u8 {
         match self {
             StationFault::UnknownSender => 16,
             StationFault::NotAbove => 26,
@@ -62,37 +65,30 @@ impl StationFault {
         }
     }
 
-    // The layer where it arose.
-    pub fn layer(self) -> Layer
-        ensures { result ≡ layer_of self }
-    {
+    fn layer(&self) -> Layer {
         match self {
             StationFault::Frame(fault) => fault.layer(),
             _ => Layer::Station,
         }
     }
-}
 
-// A refusal of the frame or the mode is written as they write it.
-impl fmt::Display for StationFault {
-    ghost output = { λ fault. Some (line_of (number_of fault) (place_of fault) (layer_of fault) (reason_of fault)) };
-
-    fn fmt<W: fmt::Write>(&self, f: &mut fmt::Formatter<W>) -> fmt::Result {
-        let reason = match *self {
+    fn reason(&self) -> &'static str {
+        match self {
             StationFault::SameId => "the station's own id is its peer's too",
             StationFault::BadNumber => "the start or the floor is outside the frame numbers",
             StationFault::Exhausted => "every frame number has been handed out",
             StationFault::NotOut => "the ticket is not the one that is out here",
             StationFault::UnknownSender => "the sender is not the peer",
             StationFault::NotAbove => "the number is not above the highest one",
-            StationFault::Frame(fault) => return write!(f, "{fault}"),
-        };
-        let line = Line {
-            number: self.number(),
-            place: self.place(),
-            layer: self.layer(),
-            reason,
-        };
-        write!(f, "{line}")
+            StationFault::Frame(fault) => fault.reason(),
+        }
+    }
+}
+
+impl fmt::Display for StationFault {
+    ghost output = { λ fault. Some (line_of (station_number fault) (station_place fault) (station_layer fault) (station_reason fault)) };
+
+    fn fmt<W: fmt::Write>(&self, f: &mut fmt::Formatter<W>) -> fmt::Result {
+        Line::of(self).fmt(f)
     }
 }

@@ -6,6 +6,7 @@ use crate::counting::Counting;
 use crate::tally::Tally;
 use block::{Block, Cut};
 use cipher::Cipher;
+use layer::Refusal;
 use masking::Masking;
 use mode::{Mode, Pair};
 use std::cell::Cell;

@@ -18,7 +18,7 @@ fn seals<C: Cipher + Drop, M: Masking + Drop>(
     pair: &Pair<C, M>,
     row: &SealRow,
 ) -> Result<bool, AllocError> {
-    let Some(mode) = Mode::of(row.mode) else {
+    let Ok(mode) = Mode::try_from(row.mode) else {
         return Ok(false);
     };
     let header = row.header.as_slice();

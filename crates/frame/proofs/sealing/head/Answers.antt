@@ -6,4 +6,4 @@ use Rattle.frame.proofs.sealing.head.Goals as goal
 pub returns : goal.returns
 unfolding head_of bytes_of
 returns c =
-    simp (c.value.ensures, c.to_be_bytes.ensures, c.to_be_bytes-2.ensures, c.to_be_bytes-3.ensures, c.to_be_bytes-4.ensures, c.low_bytes.ensures, div-one)
+    simp (c.from.ensures, c.to_be_bytes.ensures, c.to_be_bytes-2.ensures, c.to_be_bytes-3.ensures, c.to_be_bytes-4.ensures, c.low_bytes.ensures, div-one)
