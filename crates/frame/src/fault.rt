@@ -1,7 +1,7 @@
 // Why a frame is refused.
 ghost use Rattle.std.specs.Prelude.{◌≡◌, Some};
 ghost use Rattle.layer.specs.Lines.{line_of};
-ghost use Rattle.frame.specs.declared.fault.FrameFault.TheVariants.{Sealing, UnknownMode as unknown_mode};
+ghost use Rattle.frame.specs.declared.fault.FrameFault.TheVariants.{BadField, Sealing, UnknownMode as unknown_mode};
 ghost use Rattle.frame.specs.Fields.{field_place};
 ghost use Rattle.frame.specs.Faults.{number_of as frame_number, place_of as frame_place, layer_of as frame_layer, reason_of as frame_reason};
 
@@ -66,6 +66,15 @@ impl From<ModeFault> for FrameFault {
 
     fn from(refusal: ModeFault) -> FrameFault {
         FrameFault::Sealing(refusal)
+    }
+}
+
+// A head field that breaks its rule.
+impl From<HeadField> for FrameFault {
+    ghost from_gives = { λ field r. r ≡ BadField field };
+
+    fn from(field: HeadField) -> FrameFault {
+        Self::BadField(field)
     }
 }
 

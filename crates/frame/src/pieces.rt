@@ -1,5 +1,5 @@
 // The parts of a frame, as its head gives them.
-ghost use Rattle.std.specs.Prelude.{◌≡◌, ◌+◌, ◌-◌, ◌≤◌, length, take, drop, Some, None};
+ghost use Rattle.std.specs.Prelude.{◌≡◌, ◌+◌, ◌-◌, ◌≤◌, true, false, length, take, drop, IfErr, OnOk, Ok, Err};
 ghost use Rattle.block.specs.Bytes.{number_of};
 ghost use Rattle.mode.specs.Values.{mode_value};
 ghost use Rattle.frame.specs.Fields.{mode_byte, tag_start, Breaks, AllHold};
@@ -39,41 +39,32 @@ fn number(bytes: &[u8]) -> u64
     all
 }
 
-// The field of the lowest place that breaks its rule.
-fn bad_field(frame: &[u8]) -> Option<HeadField>
+impl HeadField {
+    // Refuses with this field, unless its rule holds.
+    fn keeps(self, rule: bool) -> Result<(), HeadField>
+        ensures ok { OnOk result (rule ≡ true) }
+        ensures err { IfErr result (λ field. (rule ≡ false) × (field ≡ self)) }
+    {
+        if rule { Ok(()) } else { Err(self) }
+    }
+}
+
+// Whether the head's fields keep their rules; if not, the field of the lowest place that breaks its rule.
+fn check_fields(frame: &[u8]) -> Result<(), HeadField>
     requires { 48 ≤ length frame.now }
-    ensures { elim result [ Some field ↦ Breaks field frame.now | None ↦ AllHold frame.now ] }
+    ensures { elim result [ Ok _ ↦ AllHold frame.now | Err field ↦ Breaks field frame.now ] }
 {
     let clear = number(&frame[2..4]);
     let sealed = number(&frame[4..6]);
-    if number(&frame[1..2]) != 0 {
-        return Some(HeadField::AfterMode);
-    }
-    if clear > 1024 {
-        return Some(HeadField::ClearLength);
-    }
-    if sealed > 1024 {
-        return Some(HeadField::SealedLength);
-    }
-    if number(&frame[6..8]) != 32 {
-        return Some(HeadField::ClearStart);
-    }
-    if number(&frame[8..10]) != 32 + clear {
-        return Some(HeadField::SealedStart);
-    }
-    if number(&frame[10..12]) != 32 + clear + sealed {
-        return Some(HeadField::TagStart);
-    }
-    if number(&frame[12..16]) != 0 {
-        return Some(HeadField::BeforeSender);
-    }
-    if number(&frame[17..24]) != 0 {
-        return Some(HeadField::AfterSender);
-    }
-    if number(&frame[24..26]) != 0 {
-        return Some(HeadField::BeforeNumber);
-    }
-    None
+    HeadField::AfterMode.keeps(number(&frame[1..2]) == 0)?;
+    HeadField::ClearLength.keeps(clear <= 1024)?;
+    HeadField::SealedLength.keeps(sealed <= 1024)?;
+    HeadField::ClearStart.keeps(number(&frame[6..8]) == 32)?;
+    HeadField::SealedStart.keeps(number(&frame[8..10]) == 32 + clear)?;
+    HeadField::TagStart.keeps(number(&frame[10..12]) == 32 + clear + sealed)?;
+    HeadField::BeforeSender.keeps(number(&frame[12..16]) == 0)?;
+    HeadField::AfterSender.keeps(number(&frame[17..24]) == 0)?;
+    HeadField::BeforeNumber.keeps(number(&frame[24..26]) == 0)
 }
 
 // Where a frame's tag ends, by its head.
@@ -125,9 +116,7 @@ pub fn parts(frame: &[u8]) -> Result<FrameParts<'_>, FrameFault>
         return Err(FrameFault::FrameShort);
     }
     let mode = Mode::try_from(frame[0])?;
-    if let Some(field) = bad_field(frame) {
-        return Err(FrameFault::BadField(field));
-    }
+    check_fields(frame)?;
     if frame.len() != end(frame) {
         return Err(FrameFault::FrameLength);
     }

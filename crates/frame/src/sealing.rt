@@ -2,16 +2,15 @@
 ghost use Rattle.std.specs.Prelude.{◌≡◌, ℕ, ◌+◌, ◌/◌, ◌%◌, ◌^◌, ◌≤◌, List, [], ◌∷◌, length};
 ghost use Rattle.mode.specs.Pairs.{maps_of};
 ghost use Rattle.mode.specs.Values.{mode_value};
-ghost use Rattle.mode.specs.Gives.{OpenGives};
 ghost use Rattle.frame.specs.Form.{head_of};
-ghost use Rattle.frame.specs.Gives.{FrameSeals, SealsFrame, PartsOf, PartsOpen, FrameOpens};
+ghost use Rattle.frame.specs.Gives.{FrameSeals, SealsFrame, PartsOpen, FrameOpens};
 
 use crate::fault::FrameFault;
 use crate::pieces::{FrameParts, parts};
 use block::{Block, load, store};
 use cipher::Cipher;
 use masking::Masking;
-use mode::{Mode, ModeFault, Pair};
+use mode::{Mode, Pair};
 
 // The most bytes of a clear part, and of a message.
 const LONGEST: usize = 1024;
@@ -123,35 +122,6 @@ pub fn seal<C: Cipher, M: Masking>(
 }
 
 impl FrameParts<'_> {
-    // Opens the sealed part under the header into a buffer of its length.
-    fn open_under<C: Cipher, M: Masking>(
-        self,
-        pair: &Pair<C, M>,
-        nonce: Block,
-        tag: Block,
-        out: &mut [u8],
-    ) -> Result<(), ModeFault>
-        ensures { OpenGives (maps_of C.forward C.backward M.onward M.inward pair.now) self.entry.mode nonce self.entry.header.now self.entry.sealed.bytes.now tag out.old out.new result }
-    {
-        pair.open(self.mode, nonce, self.header, self.sealed.bytes, tag, out)
-    }
-
-    // Opens the sealed part into an output that has room, and answers the message's length.
-    fn open_into<C: Cipher, M: Masking>(
-        self,
-        pair: &Pair<C, M>,
-        out: &mut [u8],
-    ) -> Result<usize, FrameFault>
-        requires { length self.sealed.bytes.now ≤ length out.old }
-        ensures { PartsOpen (maps_of C.forward C.backward M.onward M.inward pair.now) self.entry out.old out.new result }
-    {
-        let len = self.sealed.bytes.len();
-        let nonce = load(self.header, 16);
-        let tag = load(self.tag.bytes, 0);
-        self.open_under(pair, nonce, tag, &mut out[0..len])?;
-        Ok(len)
-    }
-
     // Opens the sealed part into the output's start, and answers the message's length.
     pub fn open<C: Cipher, M: Masking>(
         self,
@@ -160,21 +130,15 @@ impl FrameParts<'_> {
     ) -> Result<usize, FrameFault>
         ensures { PartsOpen (maps_of C.forward C.backward M.onward M.inward pair.now) self.entry out.old out.new result }
     {
-        if out.len() < self.sealed.bytes.len() {
+        let len = self.sealed.bytes.len();
+        if out.len() < len {
             return Err(FrameFault::OutputShort);
         }
-        self.open_into(pair, out)
-    }
-
-    // The same, said of every frame that these are the parts of.
-    fn open_frame<C: Cipher, M: Masking>(
-        self,
-        pair: &Pair<C, M>,
-        out: &mut [u8],
-    ) -> Result<usize, FrameFault>
-        ensures { (f : List ℕ) → PartsOf f self.entry → FrameOpens (maps_of C.forward C.backward M.onward M.inward pair.now) f out.old out.new result }
-    {
-        self.open(pair, out)
+        let nonce = load(self.header, 16);
+        let tag = load(self.tag.bytes, 0);
+        let start = &mut out[0..len];
+        pair.open(self.mode, nonce, self.header, self.sealed.bytes, tag, start)?;
+        Ok(len)
     }
 }
 
@@ -186,5 +150,5 @@ pub fn open<C: Cipher, M: Masking>(
 ) -> Result<usize, FrameFault>
     ensures { FrameOpens (maps_of C.forward C.backward M.onward M.inward pair.now) frame.now out.old out.new result }
 {
-    parts(frame)?.open_frame(pair, out)
+    parts(frame)?.open(pair, out)
 }

@@ -17,8 +17,9 @@ use mode::Pair;
 const LAST: u64 = 281_474_976_710_655;
 
 impl<C: Cipher, M: Masking> Station<C, M> {
-    // A station that has done nothing yet, or why there is none.
-    fn fresh(
+    // A station over a cipher and a masking, with its own id, its peer's, the first number that it hands out, and the floor above which it opens.
+    // Whatever list of calls is then made on it keeps the laws.
+    pub fn new(
         pair: Pair<C, M>,
         own: u8,
         peer: u8,
@@ -28,7 +29,8 @@ impl<C: Cipher, M: Masking> Station<C, M> {
     where
         C: Drop,
         M: Drop,
-        ensures { Founds pair own peer start floor result }
+        ensures founds { Founds pair own peer start floor result }
+        ensures lasts { Lasts (maps_of C.forward C.backward M.onward M.inward) pair peer floor result }
     {
         if own == peer {
             return Err(StationFault::SameId);
@@ -49,41 +51,6 @@ impl<C: Cipher, M: Masking> Station<C, M> {
             sealed: 0,
             written_off: 0,
         })
-    }
-
-    // The same, with the law that stands on it.
-    fn lawful(
-        pair: Pair<C, M>,
-        own: u8,
-        peer: u8,
-        start: u64,
-        floor: u64,
-    ) -> Result<Station<C, M>, StationFault>
-    where
-        C: Drop,
-        M: Drop,
-        ensures founds { Founds pair own peer start floor result }
-        ensures lasts { Lasts (maps_of C.forward C.backward M.onward M.inward) pair peer floor result }
-    {
-        Station::fresh(pair, own, peer, start, floor)
-    }
-
-    // A station over a cipher and a masking, with its own id, its peer's, the first number that it hands out, and the floor above which it opens.
-    // Whatever list of calls is then made on it keeps the laws.
-    pub fn new(
-        pair: Pair<C, M>,
-        own: u8,
-        peer: u8,
-        start: u64,
-        floor: u64,
-    ) -> Result<Station<C, M>, StationFault>
-    where
-        C: Drop,
-        M: Drop,
-        ensures founds { Founds pair own peer start floor result }
-        ensures lasts { Lasts (maps_of C.forward C.backward M.onward M.inward) pair peer floor result }
-    {
-        Station::lawful(pair, own, peer, start, floor)
     }
 
     // Hands out the next number on a ticket. A number that is still out is written off.
