@@ -1,5 +1,5 @@
 -- What sealing into a frame leaves in the output.
-use Rattle.std.proofs.Common.{◌≡◌, ℕ, ◌+◌, ◌-◌, ◌<◌, ◌≤◌, List, ◌++◌, length, take, drop, sym, ap, ◌∙◌, subst, ap₂, append_assoc, arith, length-append, length-drop}
+use Rattle.std.proofs.Common.{◌≡◌, ℕ, ◌+◌, ◌-◌, ◌<◌, ◌≤◌, List, ◌++◌, length, take, drop, Ok, Err, Result, sym, ap, ◌∙◌, subst, ap₂, append_assoc, arith, length-append, length-drop}
 use borrow.Rule.Slice.PartMut.{put_mid}
 use lib.Seq.{drop-append-add}
 use Rattle.std.proofs.lemmas.List.{take_at, drop_at, take-take, drop-drop, take-append-drop}
@@ -12,7 +12,8 @@ use Rattle.mode.specs.Gives.{Behind}
 use Rattle.frame.specs.Fields.{sender_of, frame_number}
 use Rattle.frame.specs.Form.{head_of, header_from, frame_of, clear_part, SealsTo}
 use Rattle.frame.specs.FormLaws.{length_head, nonce_first, frame_length, frame_sender, frame_number_low, frame_clear, frame_seals, only_one, never_neighbours}
-use Rattle.frame.specs.Gives.{Framed, SealedFrame}
+use Rattle.frame.specs.declared.fault.FrameFault.{FrameFault}
+use Rattle.frame.specs.Gives.{Framed, FrameSeals, SealedFrame, SealsFrame}
 
 module _ (w : Maps) (mode : Mode) (sender number : ℕ) (clear message was : List ℕ) (first second buf out : List ℕ) (nonce tag : ℕ)
     (room : 32 + length clear + length message + 16 ≤ length was)
@@ -92,7 +93,7 @@ module _ (w : Maps) (mode : Mode) (sender number : ℕ) (clear message was : Lis
       ∙ ap (λ (v : List ℕ). v ++ drop (tag_at + 16) was) (append_assoc header sealed (bytes_of 16 (tag_of w (block_at 16 header) header message)))
 
 -- an accepted frame, read back
-pub framed_seals : (w : Maps) → Lawful w → (sender number m n : ℕ) (clear message was out : List ℕ) → sender < 256 → Bytes clear → Bytes message
+framed_seals : (w : Maps) → Lawful w → (sender number m n : ℕ) (clear message was out : List ℕ) → sender < 256 → Bytes clear → Bytes message
     → Framed w sender number m clear message was out n → SealedFrame w sender number clear message (take n out)
 framed_seals w laws sender number m n clear message was out hs hc hm f =
     let frame : List ℕ = frame_of w f.mode sender number clear message in
@@ -108,3 +109,8 @@ framed_seals w laws sender number m n clear message was out hs hc hm f =
       alone = λ other t. only_one w laws (take n out) other message t seals;
       apart = λ g other b t. never_neighbours w laws (take n out) g message other b seals t;
     }
+
+pub seals_frame : (w : Maps) → Lawful w → (sender number m : ℕ) (clear message was out : List ℕ) → sender < 256 → Bytes clear → Bytes message
+    → (r : Result ℕ FrameFault) → FrameSeals w sender number m clear message was out r → SealsFrame w sender number clear message out r
+seals_frame w laws sender number m clear message was out hs hc hm (Ok n) f = framed_seals w laws sender number m n clear message was out hs hc hm f
+seals_frame w laws sender number m clear message was out hs hc hm (Err fault) f = tt

@@ -15,87 +15,59 @@ use mode::{Mode, Pair};
 // The most bytes of a clear part, and of a message.
 const LONGEST: usize = 1024;
 
-// The low 48 bits of a frame number, the most significant byte first.
-fn low_bytes(number: u64) -> [u8; 6]
-    ensures { result ≡ number / 256 ^ 5 % 256 ∷ number / 256 ^ 4 % 256 ∷ number / 256 ^ 3 % 256 ∷ number / 256 ^ 2 % 256 ∷ number / 256 % 256 ∷ number % 256 ∷ [] }
-{
-    let [_, _, n5, n4, n3, n2, n1, n0] = number.to_be_bytes();
-    [n5, n4, n3, n2, n1, n0]
-}
-
-// A head, for a clear part and a message of so many bytes; of the number it holds the low 48 bits.
-fn head(mode: Mode, clear: usize, message: usize, sender: u8, number: u64) -> [u8; 32]
-    requires { (clear ≤ 1024) × (message ≤ 1024) }
-    ensures { result ≡ head_of mode clear message sender number }
-{
-    let [c1, c0] = (clear as u16).to_be_bytes();
-    let [m1, m0] = (message as u16).to_be_bytes();
-    let [s1, s0] = (32 + clear as u16).to_be_bytes();
-    let [t1, t0] = (32 + clear as u16 + message as u16).to_be_bytes();
-    let [n5, n4, n3, n2, n1, n0] = low_bytes(number);
-    [
-        u8::from(mode),
-        0,
-        c1,
-        c0,
-        m1,
-        m0,
-        0,
-        32,
-        s1,
-        s0,
-        t1,
-        t0,
-        0,
-        0,
-        0,
-        0,
-        sender,
-        0,
-        0,
-        0,
-        0,
-        0,
-        0,
-        0,
-        0,
-        0,
-        n5,
-        n4,
-        n3,
-        n2,
-        n1,
-        n0,
-    ]
-}
-
-// Writes the frame of a message that fits, with its head and its clear part, at the output's start, and answers its length.
-fn write_frame<C: Cipher, M: Masking>(
-    pair: &Pair<C, M>,
+// What a frame is made of; the number's low 48 bits go into its head.
+#[derive(Clone, Copy)]
+struct Content<'a> {
+    mode: Mode,
     sender: u8,
     number: u64,
-    mode: Mode,
-    clear: &[u8],
-    message: &[u8],
-    out: &mut [u8],
-) -> Result<usize, FrameFault>
-    requires clear_short { length clear.now ≤ 1024 }
-    requires message_short { length message.now ≤ 1024 }
-    requires room { 48 + length clear.now + length message.now ≤ length out.old }
-    ensures gives { (m : ℕ) → m ≡ mode_value mode → FrameSeals (maps_of C.forward C.backward M.onward M.inward pair.now) sender number m clear.now message.now out.old out.new result }
-    ensures seals { SealsFrame (maps_of C.forward C.backward M.onward M.inward pair.now) sender number clear.now message.now out.new result }
-{
-    let sealed_at = 32 + clear.len();
-    let tag_at = sealed_at + message.len();
-    out[0..32].copy_from_slice(&head(mode, clear.len(), message.len(), sender, number));
-    out[32..sealed_at].copy_from_slice(clear);
-    let nonce = load(out, 16);
-    let tag = pair.seal_behind(mode, nonce, sealed_at, message, &mut out[0..tag_at])?;
-    store(out, tag_at, tag);
-    Ok(tag_at + 16)
+    clear: &'a [u8],
+    message: &'a [u8],
+    ghost clear_short: { length clear.now ≤ 1024 },
+    ghost message_short: { length message.now ≤ 1024 },
 }
 
-// Seals a message into a frame at the output's start, and answers its length.
+impl Content<'_> {
+    // The frame's head.
+    fn head(&self) -> [u8; 32]
+        ensures { result ≡ head_of self.now.mode (length self.now.clear.now) (length self.now.message.now) self.now.sender self.now.number }
+    {
+        let clear = self.clear.len() as u16;
+        let message = self.message.len() as u16;
+        let mut head = [0; 32];
+        head[0] = u8::from(self.mode);
+        head[2..4].copy_from_slice(&clear.to_be_bytes());
+        head[4..6].copy_from_slice(&message.to_be_bytes());
+        head[7] = 32;
+        head[8..10].copy_from_slice(&(32 + clear).to_be_bytes());
+        head[10..12].copy_from_slice(&(32 + clear + message).to_be_bytes());
+        head[16] = self.sender;
+        head[26..32].copy_from_slice(&self.number.to_be_bytes()[2..8]);
+        head
+    }
+
+    // Writes the frame at the start of an output that has room, and answers its length.
+    fn write<C: Cipher, M: Masking>(
+        &self,
+        pair: &Pair<C, M>,
+        out: &mut [u8],
+    ) -> Result<usize, FrameFault>
+        requires { 48 + length self.now.clear.now + length self.now.message.now ≤ length out.old }
+        ensures { (m : ℕ) → m ≡ mode_value self.now.mode → FrameSeals (maps_of C.forward C.backward M.onward M.inward pair.now) self.now.sender self.now.number m self.now.clear.now self.now.message.now out.old out.new result }
+    {
+        let sealed_at = 32 + self.clear.len();
+        let tag_at = sealed_at + self.message.len();
+        out[0..32].copy_from_slice(&self.head());
+        out[32..sealed_at].copy_from_slice(self.clear);
+        let nonce = load(out, 16);
+        let start = &mut out[0..tag_at];
+        let tag = pair.seal_behind(self.mode, nonce, sealed_at, self.message, start)?;
+        store(out, tag_at, tag);
+        Ok(tag_at + 16)
+    }
+}
+
+// Seals a message into a frame at the output's start, and answers its length. The mode is a byte, since a caller's byte that is no mode's number has its own refusal.
 pub fn seal<C: Cipher, M: Masking>(
     pair: &Pair<C, M>,
     sender: u8,
@@ -118,7 +90,14 @@ pub fn seal<C: Cipher, M: Masking>(
     if out.len() < 48 + clear.len() + message.len() {
         return Err(FrameFault::OutputShort);
     }
-    write_frame(pair, sender, number, mode, clear, message, out)
+    let content = Content {
+        mode,
+        sender,
+        number,
+        clear,
+        message,
+    };
+    content.write(pair, out)
 }
 
 impl FrameParts<'_> {

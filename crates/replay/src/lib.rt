@@ -9,7 +9,7 @@ use masking::{Idle, Masking};
 use mode::Pair;
 use station::{Station, StationFault};
 
-// Which of two openings of one frame were accepted.
+// Which of two openings of one frame were accepted. Flags and no Results: what they opened is no part of the promise.
 #[derive(Clone, Copy, PartialEq, Eq, Debug)]
 pub struct Openings {
     pub first: bool,

@@ -19,8 +19,8 @@ use Rattle.station.specs.declared.state.Opened.{Opened}
 use Rattle.station.specs.declared.state.Station.{Station}
 use Rattle.station.specs.Numbers.{held}
 use Rattle.station.specs.Events.{Event, Open}
-use Rattle.station.specs.Steps.{Step, Fresh, Founds}
-use Rattle.station.specs.Laws.{highest_then, highest_after, out_after, written_off_count, reserves, seals, NoOtherFault, Decided, Delivered, Run, Kept, Lasts}
+use Rattle.station.specs.Steps.{Step, Fresh}
+use Rattle.station.specs.Laws.{highest_then, highest_after, out_after, written_off_count, reserves, seals, NoOtherFault, Decided, Delivered, Run, Kept}
 use Rattle.station.proofs.Runs.{moved, ran, distinct}
 
 known : (mode : Mode) (m : ℕ) → m ≡ mode_value mode → Known m
@@ -124,7 +124,3 @@ module _ {C M : Type 0} (maps : Pair C M → Maps) where
         delivers = λ first last f was out a q. delivered (maps pair) laws peer (highest_after floor first) f was out a (place first last (Open f was out (Ok a)) q);
         decides = λ first last f was out r q clean. decided (maps pair) peer (highest_after floor first) f was out r (place first last (Open f was out r) q) clean;
       }
-
-  pub lasts : (pair : Pair C M) (own peer start floor : ℕ) → Lawful (maps pair) → (r : Result (Station C M) StationFault) → Founds pair own peer start floor r → Lasts maps pair peer floor r
-  lasts pair own peer start floor laws (Ok s) h = kept pair own peer start floor s laws h.4
-  lasts pair own peer start floor laws (Err fault) h = tt

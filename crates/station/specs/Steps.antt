@@ -143,16 +143,6 @@ module _ {C M : Type 0} where
   FitGives s f (Err NotAbove) = WellFormed f × (sender_of f ≡ s.peer.id) × (frame_number f ≤ s.peer.highest)
   FitGives s f (Err (Frame fault)) = Malformed f fault
 
-  -- the highest number is set, and nothing else
-  pub record Notes (s : Station C M) (number : ℕ) (t : Station C M) : Type 0 where
-    pub highest_is : t.peer.highest ≡ number
-    pub out_is : t.out ≡ s.out
-    pub next_is : t.next ≡ s.next
-    pub reserved_is : t.reserved ≡ s.reserved
-    pub sealed_is : t.sealed ≡ s.sealed
-    pub off_is : t.written_off ≡ s.written_off
-    pub stays : Stays s t
-
   abbrev pub OpenFrameRefused : Maps → Station C M → (f was out : List ℕ) → FrameFault → Type 0
   OpenFrameRefused w s f was out UnknownMode = Malformed f UnknownMode × (out ≡ was)
   OpenFrameRefused w s f was out ClearTooLong = ⊥

@@ -27,6 +27,13 @@ struct Peer {
     highest: u64,
 }
 
+// What becomes of a number that was out.
+#[derive(Clone, Copy)]
+enum End {
+    Sealed,
+    WrittenOff,
+}
+
 // A station. Out is the number that is reserved and neither sealed nor written off; a number is written off when it is given up, when its seal is
 // refused, or when the next one is reserved over it.
 #[derive(Drop)]

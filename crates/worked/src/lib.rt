@@ -4,16 +4,10 @@
 ghost use Rattle.std.specs.Prelude.{◌≡◌, length};
 ghost use Rattle.worked.specs.Rows.{table, TableHolds};
 
-// Shows that the rows of the table hold; it does nothing else.
-fn rows_hold()
-    ensures { TableHolds }
-{}
-
 // How many rows the table of worked values has. All of them hold.
 pub fn rows() -> usize
     ensures count { result ≡ length table }
     ensures hold { TableHolds }
 {
-    rows_hold();
     11
 }

@@ -1,12 +1,12 @@
 // The making of a station and the four calls on it.
-ghost use Rattle.std.specs.Prelude.{◌≡◌, ℕ, true, List, is_some};
+ghost use Rattle.std.specs.Prelude.{◌≡◌, true, is_some};
 ghost use Rattle.mode.specs.Pairs.{maps_of};
-ghost use Rattle.frame.specs.Gives.{PartsOf};
 ghost use Rattle.station.specs.Events.{Reserve, GiveUp, Seal, Open};
-ghost use Rattle.station.specs.Steps.{Step, Founds, Spends, Settles, Fit, FitGives, Notes};
+ghost use Rattle.station.specs.Ends.{is_sealed};
+ghost use Rattle.station.specs.Steps.{Step, Founds, Spends, Settles, FitGives};
 ghost use Rattle.station.specs.Laws.{Lasts};
 
-use super::{Opened, Peer, Station, Ticket};
+use super::{End, Opened, Peer, Station, Ticket};
 use crate::fault::StationFault;
 use cipher::Cipher;
 use frame::FrameParts;
@@ -18,7 +18,7 @@ const LAST: u64 = 281_474_976_710_655;
 
 impl<C: Cipher, M: Masking> Station<C, M> {
     // A station over a cipher and a masking, with its own id, its peer's, the first number that it hands out, and the floor above which it opens.
-    // Whatever list of calls is then made on it keeps the laws.
+    // Whatever list of calls is then made on it keeps the laws. No struct holds the four numbers, since they part here at once.
     pub fn new(
         pair: Pair<C, M>,
         own: u8,
@@ -84,16 +84,15 @@ impl<C: Cipher, M: Masking> Station<C, M> {
         Ok(number)
     }
 
-    // Clears out, and counts its number as sealed or as written off.
-    fn settle(&mut self, sealed: bool)
+    // Clears out, and counts its number as what became of it.
+    fn settle(&mut self, end: End)
         requires { is_some self.old.out ≡ true }
-        ensures { Settles self.old sealed self.new }
+        ensures { Settles self.old (is_sealed end) self.new }
     {
         self.out = None;
-        if sealed {
-            self.sealed += 1;
-        } else {
-            self.written_off += 1;
+        match end {
+            End::Sealed => self.sealed += 1,
+            End::WrittenOff => self.written_off += 1,
         }
     }
 
@@ -101,12 +100,12 @@ impl<C: Cipher, M: Masking> Station<C, M> {
     pub fn give_up(&mut self, ticket: Ticket) -> Result<(), StationFault>
         ensures { Step (maps_of C.forward C.backward M.onward M.inward) self.old (GiveUp ticket result) self.new }
     {
-        let _number = self.spend(ticket)?;
-        self.settle(false);
+        self.spend(ticket)?;
+        self.settle(End::WrittenOff);
         Ok(())
     }
 
-    // Seals a message under a ticket's number into a frame at the output's start, and answers its length.
+    // Seals a message under a ticket's number into a frame at the output's start, and answers its length. The mode is a byte, as in frame::seal.
     pub fn seal(
         &mut self,
         ticket: Ticket,
@@ -119,9 +118,13 @@ impl<C: Cipher, M: Masking> Station<C, M> {
     {
         let number = self.spend(ticket)?;
         let answer = frame::seal(&self.pair, self.own, number, mode, clear, message, out);
-        self.settle(answer.is_ok());
-        let length = answer?;
-        Ok(length)
+        let end = if answer.is_ok() {
+            End::Sealed
+        } else {
+            End::WrittenOff
+        };
+        self.settle(end);
+        Ok(answer?)
     }
 
     // The parts of a frame of the peer with a number above the highest, or why it is not one.
@@ -138,28 +141,14 @@ impl<C: Cipher, M: Masking> Station<C, M> {
         Ok(parts)
     }
 
-    // Notes the number of a frame that was opened.
-    fn note(&mut self, number: u64)
-        ensures { Notes self.old number self.new }
-    {
-        self.peer.highest = number;
-    }
-
-    // Opens over the parts of any frame that fits.
-    fn open_parts(&mut self, parts: FrameParts<'_>, out: &mut [u8]) -> Result<Opened, StationFault>
-        ensures { (f : List ℕ) → PartsOf f parts.entry → Fit self.old f → Step (maps_of C.forward C.backward M.onward M.inward) self.old (Open f out.old out.new result) self.new }
-    {
-        let number = parts.number;
-        let length = parts.open(&self.pair, out)?;
-        self.note(number);
-        Ok(Opened { length, number })
-    }
-
     // Opens a frame of the peer, with a number above the highest, into the output's start.
     pub fn open(&mut self, frame: &[u8], out: &mut [u8]) -> Result<Opened, StationFault>
         ensures { Step (maps_of C.forward C.backward M.onward M.inward) self.old (Open frame.now out.old out.new result) self.new }
     {
         let parts = self.fit(frame)?;
-        self.open_parts(parts, out)
+        let length = parts.open(&self.pair, out)?;
+        let number = parts.number;
+        self.peer.highest = number;
+        Ok(Opened { length, number })
     }
 }

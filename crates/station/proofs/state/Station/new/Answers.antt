@@ -1,6 +1,5 @@
 use Rattle.std.proofs.Common.{rules}
 use Rattle.mode.specs.Pairs.{maps_of}
-use Rattle.station.specs.Steps.{Fresh}
 use Rattle.station.proofs.Places.{kept}
 use Rattle.station.proofs.state.Station.new.Goals as goal
 

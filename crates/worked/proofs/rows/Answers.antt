@@ -11,7 +11,7 @@ use Rattle.masking.specs.Steps.{times}
 use Rattle.mode.specs.declared.value.Mode.TheVariants.{Forward, Dual}
 use Rattle.mode.specs.Sealing.{delta_zero_of, delta_one_of, kappa, header_block, closing, some_header_tag, header_tag_of, gamma, masked, pad_of, body, sealed_bytes, tag_from_header, message_tag_of, tag_of, Seals}
 use Rattle.worked.specs.Rows.{plain, one, table, AllHold, TableHolds}
-use Rattle.worked.proofs.rows_hold.Goals as goal
+use Rattle.worked.proofs.rows.Goals as goal
 
 -- a message seals in both modes, from its three equations
 both : (header message bytes : List ℕ) (tag : ℕ) → Bytes message → bytes ≡ sealed_bytes plain Forward 0 message → bytes ≡ sealed_bytes plain Dual 0 message
@@ -43,6 +43,6 @@ all_hold = (
   ),
 )
 
-pub returns : goal.returns
+pub returns-clause-hold : goal.returns-clause-hold
 unfolding TableHolds
-returns c = all_hold
+returns-clause-hold c = all_hold

@@ -1,9 +1,0 @@
-use Rattle.std.proofs.Common.{div-one}
-use Rattle.block.specs.Bytes.{bytes_of}
-use Rattle.frame.specs.Form.{head_of}
-use Rattle.frame.proofs.sealing.head.Goals as goal
-
-pub returns : goal.returns
-unfolding head_of bytes_of
-returns c =
-    simp (c.from.ensures, c.to_be_bytes.ensures, c.to_be_bytes-2.ensures, c.to_be_bytes-3.ensures, c.to_be_bytes-4.ensures, c.low_bytes.ensures, div-one)
