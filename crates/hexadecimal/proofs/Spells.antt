@@ -1,5 +1,5 @@
 -- The two ways to say which bytes a text spells are one: from its start, and by the pair at each place.
-use Rattle.std.proofs.Common.{◌≡◌, ℕ, zero, suc, ◌+◌, ◌*◌, ◌<◌, List, [], ◌∷◌, length, get_or, Some, None, Option, Ok, Err, Result, IfOk, MatchOption, refl, sym, ap, ◌∙◌, subst, arith}
+use Rattle.std.proofs.Common.{◌≡◌, ℕ, zero, suc, ◌+◌, ◌*◌, ◌<◌, List, [], ◌∷◌, length, get_or, Some, None, Option, refl, sym, ap, ◌∙◌, subst, arith}
 use Rattle.hexadecimal.specs.Hex.{digit_of, Pair, Spells, byte_of, before, spelled}
 
 record Before (o : Option ℕ) (p : Option (List ℕ)) (bs : List ℕ) : Type 0 where
@@ -87,10 +87,3 @@ spells_spelled (c ∷ d ∷ text) (b ∷ bs) s =
 
 pub none_spells : (text : List ℕ) → spelled text ≡ None → (bs : List ℕ) → Spells text bs → ⊥
 none_spells text e bs s = let f : Some bs ≡ None = sym (spells_spelled text bs s) ∙ e in absurd (let g : ⊥ = cc in g)
-
--- what one of them says of an answer, the other says too
-pub both_ways : {V E : Type 0} (items : V → List ℕ) (text : List ℕ) (r : Result (Option V) E) → IfOk r (λ o. MatchOption o (spelled text ≡ None) (λ v. spelled text ≡ Some (items v)))
-    → IfOk r (λ o. MatchOption o ((bs : List ℕ) → Spells text bs → ⊥) (λ v. Spells text (items v)))
-both_ways items text (Ok None) h = none_spells text h
-both_ways items text (Ok (Some v)) h = spelled_spells text (items v) h
-both_ways items text (Err e) h = h

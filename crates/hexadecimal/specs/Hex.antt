@@ -26,6 +26,13 @@ byte_of None low = None
 byte_of (Some high) None = None
 byte_of (Some high) (Some low) = Some (16 * high + low)
 
+-- the byte that a text of two digits spells
+abbrev pub byte_in : List ℕ → Option ℕ
+byte_in [] = None
+byte_in (c ∷ []) = None
+byte_in (c ∷ d ∷ []) = byte_of (digit_of c) (digit_of d)
+byte_in (c ∷ d ∷ e ∷ text) = None
+
 -- a byte before others
 abbrev pub before : Option ℕ → Option (List ℕ) → Option (List ℕ)
 before None bytes = None
