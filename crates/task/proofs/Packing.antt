@@ -1,6 +1,7 @@
 -- Records written and read byte by byte, and one more record behind others.
-use Rattle.std.proofs.Common.{◌≡◌, ℕ, ◌+◌, ◌-◌, ◌*◌, ◌/◌, ◌%◌, ◌<◌, List, [], ◌∷◌, ◌++◌, length, get_or, take, drop, sym, refl, ap, ◌∙◌, ap₂, append_assoc, div-one, arith, drop-cons, take-add}
+use Rattle.std.proofs.Common.{◌≡◌, ℕ, suc, ◌+◌, ◌*◌, ◌/◌, ◌%◌, ◌<◌, List, [], ◌∷◌, ◌++◌, length, get_or, take, drop, sym, refl, ap, ◌∙◌, ap₂, append_assoc, div-one, arith, drop-cons, take-add}
 use Rattle.std.proofs.lemmas.List.{append-nil, take_more, drop_all}
+use Rattle.std.specs.Simd.{first_chunks}
 use Rattle.block.specs.Bytes.{bytes_of}
 use Rattle.block.specs.Bytes.Bytes.{none, more}
 use Rattle.block.specs.BytesLaws.{bytes_read}
@@ -44,14 +45,16 @@ pub packed_more : (xs : List Offset) (o : Offset) → packed (xs ++ o ∷ []) �
 unfolding packed
 packed_more xs o = packed-append xs (o ∷ []) ∙ ap (λ (v : List ℕ). packed xs ++ v) (append-nil (record_of o))
 
--- one more record, where the record is the next six bytes
-pub unpacked_more : (xs : List Offset) (o : Offset) (ys : List Offset) (bs piece : List ℕ) (i : ℕ) → ys ≡ xs ++ o ∷ []
-    → packed xs ≡ take (6 * i) bs → record_of o ≡ piece → piece ≡ take (6 * i + 6 - 6 * i) (drop (6 * i) bs) → packed ys ≡ take (6 * (i + 1)) bs
-unpacked_more xs o ys bs piece i e old r p =
-    let six : 6 * i + 6 - 6 * i ≡ 6 = omega arith in
-    let n : 6 * i + 6 ≡ 6 * (i + 1) = omega arith in
-    let next : record_of o ≡ take 6 (drop (6 * i) bs) = r ∙ p ∙ ap (λ (k : ℕ). take k (drop (6 * i) bs)) six in
-    ap packed e ∙ packed_more xs o ∙ ap₂ (λ (u v : List ℕ). u ++ v) old next ∙ sym (take-add (6 * i) 6 bs) ∙ ap (λ (k : ℕ). take k bs) n
+-- offsets of which each is the one of the next six bytes
+pub unpacked : (os : List Offset) (bs : List ℕ) → ((i : ℕ) (d : Offset) → i < length os → record_of (get_or os i d) ≡ get_or (first_chunks 6 (length os) bs) i [])
+    → packed os ≡ take (6 * length os) bs
+unfolding packed
+unpacked [] bs each = refl
+unpacked (o ∷ os) bs each =
+    let first : record_of o ≡ take 6 bs = each 0 o (omega arith) in
+    let rest : packed os ≡ take (6 * length os) (drop 6 bs) = unpacked os (drop 6 bs) (λ i d h. each (suc i) d (omega arith)) in
+    let n : 6 + 6 * length os ≡ 6 * suc (length os) = omega arith in
+    ap₂ (λ (u v : List ℕ). u ++ v) first rest ∙ sym (take-add 6 (6 * length os) bs) ∙ ap (λ (k : ℕ). take k bs) n
 
 -- the next record, behind those of the offsets before
 pub packed_next : (os : List Offset) (d : Offset) (i : ℕ) (old new piece : List ℕ) → i < length os → old ≡ packed (take i os) → new ≡ old ++ piece

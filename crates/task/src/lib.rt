@@ -5,4 +5,4 @@ mod record;
 mod words;
 
 pub use record::{Offset, pack, unpack};
-pub use words::{ValveHead, hundredths, id, key, number, serial, valve_head};
+pub use words::{Decimal, UnknownValveHead, ValveHead, key, number};

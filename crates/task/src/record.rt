@@ -11,56 +11,42 @@ pub struct Offset {
     pub hundredths: i16,
 }
 
-impl Offset {
-    // How many bytes a record has.
-    pub const SIZE: usize = 6;
+// The record: the serial in four bytes, then the offset in two.
+impl From<Offset> for [u8; 6] {
+    ghost from_gives = { λ offset bytes. bytes ≡ record_of offset };
 
-    // The record: the serial in four bytes, then the offset in two.
-    pub fn record(self) -> [u8; 6]
-        ensures { result ≡ record_of self }
-    {
-        self.written()
-    }
-
-    // The offset that a record holds.
-    pub fn of_record(bytes: [u8; 6]) -> Offset
-        ensures { record_of result ≡ bytes }
-    {
-        Offset::read_from(bytes)
-    }
-
-    fn written(self) -> [u8; 6]
-        ensures { result ≡ record_of self }
-    {
-        let [a, b, c, d] = self.serial.to_be_bytes();
-        let [e, f] = self.hundredths.cast_unsigned().to_be_bytes();
+    fn from(offset: Offset) -> [u8; 6] {
+        let [a, b, c, d] = offset.serial.to_be_bytes();
+        let [e, f] = offset.hundredths.to_be_bytes();
         [a, b, c, d, e, f]
     }
+}
 
-    fn read_from(bytes: [u8; 6]) -> Offset
-        ensures { record_of result ≡ bytes }
-    {
+// The offset that a record holds.
+impl From<[u8; 6]> for Offset {
+    ghost from_gives = { λ bytes offset. record_of offset ≡ bytes };
+
+    fn from(bytes: [u8; 6]) -> Offset {
         let [a, b, c, d, e, f] = bytes;
         Offset {
             serial: u32::from_be_bytes([a, b, c, d]),
-            hundredths: u16::from_be_bytes([e, f]).cast_signed(),
+            hundredths: i16::from_be_bytes([e, f]),
         }
     }
+}
+
+impl Offset {
+    // How many bytes a record has.
+    pub const SIZE: usize = 6;
 }
 
 // The records of the offsets, one behind the other.
 pub fn pack(heap: Global, offsets: &[Offset]) -> Result<Vec<u8>, AllocError>
     ensures { IfOk result (λ v. v.items ≡ packed offsets.now) }
 {
-    joined(heap, offsets)
-}
-
-fn joined(heap: Global, offsets: &[Offset]) -> Result<Vec<u8>, AllocError>
-    ensures { IfOk result (λ v. v.items ≡ packed offsets.now) }
-{
     let mut bytes = Vec::new(heap);
     for offset in offsets {
-        bytes.extend_from_slice(&offset.record())?;
+        bytes.extend_from_slice(&<[u8; 6]>::from(*offset))?;
     }
     Ok(bytes)
 }
@@ -69,17 +55,9 @@ fn joined(heap: Global, offsets: &[Offset]) -> Result<Vec<u8>, AllocError>
 pub fn unpack(heap: Global, bytes: &[u8]) -> Result<Vec<Offset>, AllocError>
     ensures { IfOk result (λ v. packed v.items ≡ take (6 * (length bytes.now / 6)) bytes.now) }
 {
-    parted(heap, bytes)
-}
-
-fn parted(heap: Global, bytes: &[u8]) -> Result<Vec<Offset>, AllocError>
-    ensures { IfOk result (λ v. packed v.items ≡ take (6 * (length bytes.now / 6)) bytes.now) }
-{
-    let mut offsets = Vec::new(heap);
-    for i in 0..bytes.len() / 6 {
-        let mut record = [0; 6];
-        record.copy_from_slice(&bytes[6 * i..6 * i + 6]);
-        offsets.push(Offset::of_record(record))?;
-    }
-    Ok(offsets)
+    let (records, _) = bytes.as_chunks::<6>();
+    records
+        .iter()
+        .map(|record| Offset::from(*record))
+        .collect(heap)
 }
