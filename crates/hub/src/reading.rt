@@ -2,7 +2,7 @@
 use std::alloc::{AllocError, AllocFailed, Global};
 use std::fmt;
 use std::str::{SplitWhitespace, from_utf8};
-use task::{Offset, ValveHead};
+use task::{Offset, UnknownValveHead, ValveHead};
 
 // What the hub is asked to do.
 #[derive(Drop)]
@@ -48,10 +48,15 @@ impl<T: Drop> From<AllocFailed<T>> for Reason {
     }
 }
 
-impl Reason {
-    // The reason in plain words.
-    fn text(self) -> &'static str {
-        match self {
+impl From<UnknownValveHead> for Reason {
+    fn from(_: UnknownValveHead) -> Reason {
+        Reason::NotAValveHead
+    }
+}
+
+impl fmt::Display for Reason {
+    fn fmt<W: fmt::Write>(&self, f: &mut fmt::Formatter<W>) -> fmt::Result {
+        f.write_str(match self {
             Reason::NotText => "the input is not text in UTF-8",
             Reason::UnknownWord =>
                 "a line begins with key, head, ids, number or offset, or with # for a remark",
@@ -70,7 +75,7 @@ impl Reason {
             Reason::NoIds => "the input ends without ids",
             Reason::NoNumber => "the input ends without a number",
             Reason::OutOfMemory => "there is no memory left",
-        }
+        })
     }
 }
 
@@ -83,9 +88,7 @@ pub struct Unread {
 
 impl fmt::Display for Unread {
     fn fmt<W: fmt::Write>(&self, f: &mut fmt::Formatter<W>) -> fmt::Result {
-        let line = self.line;
-        let reason = self.reason.text();
-        write!(f, "line {line}: {reason}")
+        write!(f, "line {}: {}", self.line, self.reason)
     }
 }
 
@@ -124,15 +127,15 @@ fn read_line(heap: Global, line: &str) -> Result<Entry, Reason> {
     let first = next_word(&mut words)?;
     let read = match kind {
         "key" => Entry::Key(task::key(heap, first)?.ok_or(Reason::NotAKey)?),
-        "head" => Entry::ValveHead(task::valve_head(first).ok_or(Reason::NotAValveHead)?),
+        "head" => Entry::ValveHead(first.parse()?),
         "ids" => Entry::Ids(Ids {
-            hub: task::id(first).ok_or(Reason::NotAnId)?,
-            valve: task::id(next_word(&mut words)?).ok_or(Reason::NotAnId)?,
+            hub: task::number(first).ok_or(Reason::NotAnId)?,
+            valve: task::number(next_word(&mut words)?).ok_or(Reason::NotAnId)?,
         }),
         "number" => Entry::Number(task::number(first).ok_or(Reason::NotANumber)?),
         "offset" => Entry::Offset(Offset {
-            serial: task::serial(first).ok_or(Reason::NotASerial)?,
-            hundredths: task::hundredths(next_word(&mut words)?).ok_or(Reason::NotHundredths)?,
+            serial: task::number(first).ok_or(Reason::NotASerial)?,
+            hundredths: task::number(next_word(&mut words)?).ok_or(Reason::NotHundredths)?,
         }),
         _ => return Err(Reason::UnknownWord),
     };
@@ -152,24 +155,24 @@ struct Draft {
     offsets: Vec<Offset>,
 }
 
+// Keeps what a line says, which may be said once.
+fn say<T: Copy>(place: &mut Option<T>, said: T) -> Result<(), Reason> {
+    match place.replace(said) {
+        None => Ok(()),
+        Some(_) => Err(Reason::SaidTwice),
+    }
+}
+
 impl Draft {
     // Takes what one more line says.
     fn take(&mut self, entry: Entry) -> Result<(), Reason> {
-        let again = match entry {
-            Entry::Remark => false,
-            Entry::Key(key) => self.key.replace(key).is_some(),
-            Entry::ValveHead(head) => self.valve_head.replace(head).is_some(),
-            Entry::Ids(ids) => self.ids.replace(ids).is_some(),
-            Entry::Number(number) => self.number.replace(number).is_some(),
-            Entry::Offset(offset) => {
-                self.offsets.push(offset)?;
-                false
-            }
-        };
-        if again {
-            Err(Reason::SaidTwice)
-        } else {
-            Ok(())
+        match entry {
+            Entry::Remark => Ok(()),
+            Entry::Key(key) => say(&mut self.key, key),
+            Entry::ValveHead(head) => say(&mut self.valve_head, head),
+            Entry::Ids(ids) => say(&mut self.ids, ids),
+            Entry::Number(number) => say(&mut self.number, number),
+            Entry::Offset(offset) => Ok(self.offsets.push(offset)?),
         }
     }
 
@@ -203,41 +206,30 @@ fn read_text(heap: Global, text: &str) -> Result<Task, Unread> {
         number: None,
         offsets: Vec::new(heap),
     };
-    let mut line = 0usize;
-    for words in text.lines() {
-        line = line.saturating_add(1);
-        let entry = match read_line(heap, words) {
-            Ok(entry) => entry,
-            Err(reason) => return Err(Unread { line, reason }),
-        };
-        if let Err(reason) = draft.take(entry) {
-            return Err(Unread { line, reason });
-        }
+    for (line, words) in (1usize..).zip(text.lines()) {
+        read_line(heap, words)
+            .and_then(|entry| draft.take(entry))
+            .map_err(|reason| Unread { line, reason })?;
     }
-    match draft.finish() {
-        Ok(task) => Ok(task),
-        Err(reason) => Err(Unread { line, reason }),
-    }
+    let line = text.lines().count();
+    draft.finish().map_err(|reason| Unread { line, reason })
 }
 
 // The line on which the byte behind so many others stands.
 fn line_behind(bytes: &[u8], count: usize) -> usize {
-    let mut line = 1usize;
-    for byte in bytes.iter().take(count) {
-        if *byte == b'\n' {
-            line = line.saturating_add(1);
-        }
-    }
-    line
+    bytes
+        .iter()
+        .take(count)
+        .filter(|byte| **byte == b'\n')
+        .count()
+        + 1
 }
 
 // Reads the whole input.
 pub fn read(heap: Global, bytes: &[u8]) -> Result<Task, Unread> {
-    match from_utf8(bytes) {
-        Ok(text) => read_text(heap, text),
-        Err(fault) => Err(Unread {
-            line: line_behind(bytes, fault.valid_up_to()),
-            reason: Reason::NotText,
-        }),
-    }
+    let text = from_utf8(bytes).map_err(|fault| Unread {
+        line: line_behind(bytes, fault.valid_up_to()),
+        reason: Reason::NotText,
+    })?;
+    read_text(heap, text)
 }

@@ -1,7 +1,8 @@
 // The steps between the hub and the valve head, each said as it is done.
 use crate::reading::Task;
-use crate::shown::{Hex, Line};
+use crate::shown::Line;
 use cipher::Cipher;
+use hexadecimal::Digits;
 use masking::Doubling;
 use mode::Pair;
 use station::Station;
@@ -41,7 +42,7 @@ fn pack(rt: &HostRuntime, offsets: &[Offset]) -> anyhow::Result<Vec<u8>> {
     let size = message.len();
     println!(rt; "\nThe hub packs them into {size} bytes, six for each probe. In blocks of 16:")?;
     for block in message.as_slice().chunks(16) {
-        let bytes = Hex(block);
+        let bytes = Digits(block);
         println!(rt; "   {bytes}")?;
     }
     Ok(message)
@@ -51,13 +52,13 @@ fn pack(rt: &HostRuntime, offsets: &[Offset]) -> anyhow::Result<Vec<u8>> {
 fn show_frame(rt: &HostRuntime, bytes: &[u8]) -> anyhow::Result<()> {
     match frame::parts(bytes) {
         Ok(parts) => {
-            let head = Hex(&bytes[0..bytes.len().min(32)]);
+            let head = Digits(&bytes[0..bytes.len().min(32)]);
             println!(rt; "   head         {head}")?;
-            let clear = Hex(parts.clear.bytes);
+            let clear = Digits(parts.clear.bytes);
             println!(rt; "   clear part   {clear}")?;
-            let sealed = Hex(parts.sealed.bytes);
+            let sealed = Digits(parts.sealed.bytes);
             println!(rt; "   sealed part  {sealed}")?;
-            let tag = Hex(parts.tag.bytes);
+            let tag = Digits(parts.tag.bytes);
             println!(rt; "   tag          {tag}")?;
         }
         Err(fault) => {
