@@ -4,9 +4,9 @@ use crate::shown::Line;
 use cipher::Cipher;
 use hexadecimal::Digits;
 use masking::Doubling;
-use mode::Pair;
-use station::Station;
-use task::{Offset, ValveHead};
+use mode::{Mode, Pair};
+use station::{Station, Ticket};
+use task::Offset;
 
 // The most bytes that a message has.
 const MOST: usize = 1024;
@@ -17,21 +17,17 @@ const BEFORE: usize = 40;
 // Says the offsets, a line each.
 fn list(rt: &HostRuntime, offsets: &[Offset]) -> anyhow::Result<()> {
     for offset in offsets {
-        let line = Line(*offset);
-        println!(rt; "   {line}")?;
+        println!(rt; "   {}", Line(*offset))?;
     }
     Ok(())
 }
 
 // Says what the hub is asked to do.
 fn introduce(rt: &HostRuntime, cipher: &str, task: &Task) -> anyhow::Result<()> {
-    let count = task.offsets.len();
-    let power = match task.valve_head {
-        ValveHead::Battery => "battery",
-        ValveHead::Mains => "mains",
-    };
     println!(rt;
-        "The hub has {count} probe offsets for a valve head on {power}, whose cipher is {cipher}."
+        "The hub has {} probe offsets for a valve head on {}, whose cipher is {cipher}.",
+        task.offsets.len(),
+        task.valve_head
     )?;
     list(rt, task.offsets.as_slice())
 }
@@ -39,11 +35,12 @@ fn introduce(rt: &HostRuntime, cipher: &str, task: &Task) -> anyhow::Result<()> 
 // Packs the offsets, and says the blocks.
 fn pack(rt: &HostRuntime, offsets: &[Offset]) -> anyhow::Result<Vec<u8>> {
     let message = task::pack(rt.alloc(), offsets)?;
-    let size = message.len();
-    println!(rt; "\nThe hub packs them into {size} bytes, six for each probe. In blocks of 16:")?;
+    println!(rt;
+        "\nThe hub packs them into {} bytes, six for each probe. In blocks of 16:",
+        message.len()
+    )?;
     for block in message.as_slice().chunks(16) {
-        let bytes = Digits(block);
-        println!(rt; "   {bytes}")?;
+        println!(rt; "   {}", Digits(block))?;
     }
     Ok(message)
 }
@@ -52,18 +49,15 @@ fn pack(rt: &HostRuntime, offsets: &[Offset]) -> anyhow::Result<Vec<u8>> {
 fn show_frame(rt: &HostRuntime, bytes: &[u8]) -> anyhow::Result<()> {
     match frame::parts(bytes) {
         Ok(parts) => {
-            let head = Digits(&bytes[0..bytes.len().min(32)]);
-            println!(rt; "   head         {head}")?;
-            let clear = Digits(parts.clear.bytes);
-            println!(rt; "   clear part   {clear}")?;
-            let sealed = Digits(parts.sealed.bytes);
-            println!(rt; "   sealed part  {sealed}")?;
-            let tag = Digits(parts.tag.bytes);
-            println!(rt; "   tag          {tag}")?;
+            println!(rt;
+                "   head         {}",
+                Digits(&bytes[0..bytes.len().min(32)])
+            )?;
+            println!(rt; "   clear part   {}", Digits(parts.clear.bytes))?;
+            println!(rt; "   sealed part  {}", Digits(parts.sealed.bytes))?;
+            println!(rt; "   tag          {}", Digits(parts.tag.bytes))?;
         }
-        Err(fault) => {
-            println!(rt; "   refused {fault}")?;
-        }
+        Err(fault) => println!(rt; "   refused {fault}")?,
     }
     Ok(())
 }
@@ -74,39 +68,6 @@ fn note(rt: &HostRuntime, number: u64) -> anyhow::Result<()> {
     Ok(())
 }
 
-// The hub reserves a number, notes it and seals the message; the frame, if nothing was refused.
-fn send<C: Cipher + Drop>(
-    rt: &HostRuntime,
-    hub: &mut Station<C, Doubling>,
-    mode: u8,
-    task: &Task,
-    message: &[u8],
-) -> anyhow::Result<Option<Vec<u8>>> {
-    let clear = (task.offsets.len() as u64).to_be_bytes();
-    let mut frame = vec![in rt.alloc(); 0u8; message.len().min(MOST) + BEFORE + 16]?;
-    let ticket = match hub.reserve() {
-        Ok(ticket) => ticket,
-        Err(fault) => {
-            println!(rt; "The hub cannot reserve a number: refused {fault}")?;
-            return Ok(None);
-        }
-    };
-    let noted = note(rt, ticket.number());
-    let answer = hub.seal(ticket, mode, &clear, message, frame.as_mut_slice());
-    noted?;
-    match answer {
-        Ok(length) => {
-            println!(rt; "It seals the offsets in mode {mode} into a frame of {length} bytes:")?;
-            show_frame(rt, frame.as_slice())?;
-            Ok(Some(frame))
-        }
-        Err(fault) => {
-            println!(rt; "It cannot seal: refused {fault}")?;
-            Ok(None)
-        }
-    }
-}
-
 // A station hears a frame, and says what it makes of it.
 fn hear<C: Cipher + Drop>(
     rt: &HostRuntime,
@@ -114,16 +75,13 @@ fn hear<C: Cipher + Drop>(
     frame: &[u8],
     sent: &[Offset],
 ) -> anyhow::Result<()> {
-    let mut out = [0u8; MOST];
-    match station.open(frame, &mut out) {
-        Err(fault) => {
-            println!(rt; "   refused {fault}")?;
-        }
+    let mut out = vec![in rt.alloc(); 0u8; MOST]?;
+    match station.open(frame, out.as_mut_slice()) {
+        Err(fault) => println!(rt; "   refused {fault}")?,
         Ok(opened) => {
-            let number = opened.number;
-            let length = opened.length.min(MOST);
-            let offsets = task::unpack(rt.alloc(), &out[0..length])?;
-            println!(rt; "   accepted under number {number}:")?;
+            out.truncate(opened.length);
+            let offsets = task::unpack(rt.alloc(), out.as_slice())?;
+            println!(rt; "   accepted under number {}:", opened.number)?;
             list(rt, offsets.as_slice())?;
             if offsets.as_slice() == sent {
                 println!(rt; "   These are the hub's offsets.")?;
@@ -135,96 +93,139 @@ fn hear<C: Cipher + Drop>(
     Ok(())
 }
 
-// A frame is opened, and comes in a second time.
-fn replayed<C: Cipher + Drop>(
-    rt: &HostRuntime,
-    valve: &mut Station<C, Doubling>,
-    frame: &[u8],
-    sent: &[Offset],
-) -> anyhow::Result<()> {
-    println!(rt; "The valve head opens the frame with its own copy of the key:")?;
-    hear(rt, valve, frame, sent)?;
-    println!(rt; "The same frame comes in again:")?;
-    hear(rt, valve, frame, sent)
+// The two stations with what they are to do, and the screen on which each step is said.
+#[derive(Drop)]
+struct Talk<'a, C> {
+    rt: &'a HostRuntime,
+    task: &'a Task,
+    hub: Station<C, Doubling>,
+    valve: Station<C, Doubling>,
 }
 
-// A frame comes in damaged, and then whole; last, the hub hears its own radio.
-fn damaged<C: Cipher + Drop>(
-    rt: &HostRuntime,
-    hub: &mut Station<C, Doubling>,
-    valve: &mut Station<C, Doubling>,
-    mut frame: Vec<u8>,
-    sent: &[Offset],
-) -> anyhow::Result<()> {
-    if frame.len() > BEFORE {
-        println!(rt; "On its way to the valve head one bit behind the clear part is flipped:")?;
-        frame[BEFORE] ^= 1;
-        hear(rt, valve, frame.as_slice(), sent)?;
-        frame[BEFORE] ^= 1;
-    }
-    println!(rt; "It is sent once more, and comes in whole:")?;
-    hear(rt, valve, frame.as_slice(), sent)?;
-    println!(rt; "The hub hears its own frame, whose sender is not its peer:")?;
-    hear(rt, hub, frame.as_slice(), sent)
-}
-
-// The hub reserves a number that it does not use.
-fn give_up<C: Cipher + Drop>(
-    rt: &HostRuntime,
-    hub: &mut Station<C, Doubling>,
-) -> anyhow::Result<()> {
-    let ticket = match hub.reserve() {
-        Ok(ticket) => ticket,
-        Err(fault) => {
-            println!(rt; "\nThe hub cannot reserve a number: refused {fault}")?;
-            return Ok(());
+impl<C: Cipher + Drop> Talk<'_, C> {
+    // The hub reserves a number, if it can; where it says why it cannot, the text before stands in front.
+    fn reserve(&mut self, before: &str) -> anyhow::Result<Option<Ticket>> {
+        match self.hub.reserve() {
+            Ok(ticket) => Ok(Some(ticket)),
+            Err(fault) => {
+                println!(self.rt; "{before}The hub cannot reserve a number: refused {fault}")?;
+                Ok(None)
+            }
         }
-    };
-    let noted = note(rt, ticket.number());
-    let answer = hub.give_up(ticket);
-    noted?;
-    if answer.is_ok() {
-        println!(rt; "There is nothing more to send, so it gives the number up.")?;
     }
-    Ok(())
-}
 
-// Says the counts at the end.
-fn count<C: Cipher + Drop>(
-    rt: &HostRuntime,
-    hub: &Station<C, Doubling>,
-    valve: &Station<C, Doubling>,
-) -> anyhow::Result<()> {
-    let reserved = hub.reserved();
-    let sealed = hub.sealed();
-    let written_off = hub.written_off();
-    let out = if hub.out().is_some() { 1 } else { 0 };
-    let next = hub.next();
-    let highest = valve.highest();
-    println!(rt;
-        "\nThe hub has reserved {reserved} numbers: {sealed} sealed, {written_off} written off, {out} out. Its next number is {next}."
-    )?;
-    println!(rt; "The highest number that the valve head has opened is {highest}.")?;
-    Ok(())
-}
+    // The hub reserves a number, notes it and seals the message; the frame, if nothing was refused.
+    fn send(&mut self, mode: Mode, message: &[u8]) -> anyhow::Result<Option<Vec<u8>>> {
+        let rt = self.rt;
+        let mode = mode.value();
+        let clear = (self.task.offsets.len() as u64).to_be_bytes();
+        let mut frame = vec![in rt.alloc(); 0u8; message.len().min(MOST) + BEFORE + 16]?;
+        let Some(ticket) = self.reserve("")? else {
+            return Ok(None);
+        };
+        let noted = note(rt, ticket.number());
+        let answer = self
+            .hub
+            .seal(ticket, mode, &clear, message, frame.as_mut_slice());
+        noted?;
+        match answer {
+            Ok(length) => {
+                println!(rt;
+                    "It seals the offsets in mode {mode} into a frame of {length} bytes:"
+                )?;
+                show_frame(rt, frame.as_slice())?;
+                Ok(Some(frame))
+            }
+            Err(fault) => {
+                println!(rt; "It cannot seal: refused {fault}")?;
+                Ok(None)
+            }
+        }
+    }
 
-// The whole task, between two stations with equal keys.
-fn talk<C: Cipher + Drop>(
-    rt: &HostRuntime,
-    mut hub: Station<C, Doubling>,
-    mut valve: Station<C, Doubling>,
-    task: &Task,
-) -> anyhow::Result<()> {
-    let sent = task.offsets.as_slice();
-    let message = pack(rt, sent)?;
-    if let Some(frame) = send(rt, &mut hub, 1, task, message.as_slice())? {
-        replayed(rt, &mut valve, frame.as_slice(), sent)?;
+    // The hub hears a frame.
+    fn hub_hears(&mut self, frame: &[u8]) -> anyhow::Result<()> {
+        hear(self.rt, &mut self.hub, frame, self.task.offsets.as_slice())
     }
-    if let Some(frame) = send(rt, &mut hub, 2, task, message.as_slice())? {
-        damaged(rt, &mut hub, &mut valve, frame, sent)?;
+
+    // The valve head hears a frame.
+    fn valve_hears(&mut self, frame: &[u8]) -> anyhow::Result<()> {
+        hear(
+            self.rt,
+            &mut self.valve,
+            frame,
+            self.task.offsets.as_slice(),
+        )
     }
-    give_up(rt, &mut hub)?;
-    count(rt, &hub, &valve)
+
+    // A frame is opened, and comes in a second time.
+    fn replay(&mut self, frame: &[u8]) -> anyhow::Result<()> {
+        println!(self.rt; "The valve head opens the frame with its own copy of the key:")?;
+        self.valve_hears(frame)?;
+        println!(self.rt; "The same frame comes in again:")?;
+        self.valve_hears(frame)
+    }
+
+    // A frame comes in damaged, and then whole; last, the hub hears its own radio.
+    fn damage(&mut self, mut frame: Vec<u8>) -> anyhow::Result<()> {
+        if frame.len() > BEFORE {
+            println!(self.rt;
+                "On its way to the valve head one bit behind the clear part is flipped:"
+            )?;
+            frame[BEFORE] ^= 1;
+            self.valve_hears(frame.as_slice())?;
+            frame[BEFORE] ^= 1;
+        }
+        println!(self.rt; "It is sent once more, and comes in whole:")?;
+        self.valve_hears(frame.as_slice())?;
+        println!(self.rt; "The hub hears its own frame, whose sender is not its peer:")?;
+        self.hub_hears(frame.as_slice())
+    }
+
+    // The hub reserves a number that it does not use.
+    fn give_up(&mut self) -> anyhow::Result<()> {
+        let Some(ticket) = self.reserve("\n")? else {
+            return Ok(());
+        };
+        let noted = note(self.rt, ticket.number());
+        let answer = self.hub.give_up(ticket);
+        noted?;
+        if answer.is_ok() {
+            println!(self.rt; "There is nothing more to send, so it gives the number up.")?;
+        }
+        Ok(())
+    }
+
+    // Says the counts at the end.
+    fn count(&self) -> anyhow::Result<()> {
+        let hub = &self.hub;
+        println!(self.rt;
+            "\nThe hub has reserved {} numbers: {} sealed, {} written off, {} out. Its next number is {}.",
+            hub.reserved(),
+            hub.sealed(),
+            hub.written_off(),
+            u8::from(hub.out().is_some()),
+            hub.next()
+        )?;
+        println!(self.rt;
+            "The highest number that the valve head has opened is {}.",
+            self.valve.highest()
+        )?;
+        Ok(())
+    }
+
+    // The whole task.
+    fn run(&mut self) -> anyhow::Result<()> {
+        let message = pack(self.rt, self.task.offsets.as_slice())?;
+        if let Some(frame) = self.send(Mode::Forward, message.as_slice())? {
+            self.replay(frame.as_slice())?;
+        }
+        if let Some(frame) = self.send(Mode::Dual, message.as_slice())? {
+            self.damage(frame)?;
+        }
+        self.give_up()?;
+        self.count()
+    }
 }
 
 // Makes the two stations, each with a cipher of its own under the same key, and lets them talk.
@@ -252,7 +253,13 @@ pub fn exchange<C: Cipher + Drop>(
         floor,
     );
     match (hub, valve) {
-        (Ok(hub), Ok(valve)) => talk(rt, hub, valve, task),
+        (Ok(hub), Ok(valve)) => Talk {
+            rt,
+            task,
+            hub,
+            valve,
+        }
+        .run(),
         (Err(fault), _) | (_, Err(fault)) => {
             println!(rt; "\nThere can be no such stations: refused {fault}")?;
             Ok(())
