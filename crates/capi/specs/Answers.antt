@@ -9,10 +9,11 @@ use Rattle.mode.specs.Sealing.{Maps}
 use Rattle.mode.specs.Values.{mode_value}
 use Rattle.frame.specs.declared.fault.FrameFault.{FrameFault}
 use Rattle.frame.specs.Gives.{FrameSeals, FrameOpens}
-use Rattle.capi.specs.declared.NotMade.{NotMade}
-use Rattle.capi.specs.declared.NotMade.TheVariants.{UnknownCipher, UnknownMasking, KeyLength, NonceLength, TagLength, UnknownMode}
-use Rattle.capi.specs.declared.Choice.{Choice}
-use Rattle.capi.specs.declared.CipherChoice.{CipherChoice}
+use Rattle.capi.specs.declared.choices.NotMade.{NotMade}
+use Rattle.capi.specs.declared.choices.NotMade.TheVariants.{UnknownCipher, UnknownMasking, KeyLength, NonceLength, TagLength, UnknownMode}
+use Rattle.capi.specs.declared.choices.KeyedCipher.{KeyedCipher}
+use Rattle.capi.specs.declared.choices.Choice.{Choice}
+use Rattle.capi.specs.declared.choices.CipherChoice.{CipherChoice}
 use Rattle.capi.specs.Choices.{OneOrTwo, CipherIs, Chooses, maps_under}
 use Rattle.capi.specs.Codes.{frame_code_of, mode_code, not_made_code}
 
@@ -30,7 +31,7 @@ pub record FrameOpened (w : Maps) (frame was out : List ℕ) (code : ℕ) : Type
 
 -- a call under the cipher and the masking of these numbers: what it gives under their maps, or why it is not made, with all as it was
 abbrev pub Under : Result Choice NotMade → List ℕ → (Maps → Type 0) → Type 0 → ℕ → Type 0
-Under (Ok choice) key Gives Stays code = Gives (maps_under choice.cipher choice.masking key)
+Under (Ok choice) key Gives Stays code = Gives (maps_under choice.keyed.cipher choice.masking key)
 Under (Err why) key Gives Stays code = (code ≡ not_made_code why) × Stays
 
 pub record Called (cipher masking : ℕ) (key : List ℕ) (Gives : Maps → Type 0) (Stays : Type 0) (code : ℕ) : Type 0 where
@@ -79,12 +80,15 @@ pub record Asked (mode nonce tag : ℕ) (Gives : Mode → Type 0) (Stays : Type 
 unfoldable pub mapped : (ℕ → ℕ) → List ℕ → List ℕ
 mapped f bs = through (λ i. f) (length bs / 16) bs ++ drop (16 * (length bs / 16)) bs
 
+abbrev pub MapsBlocks : (ℕ → ℕ) → (was out : List ℕ) → ℕ → Type 0
+MapsBlocks f was out count = (count ≡ 16 * (length was / 16)) × (out ≡ mapped f was)
+
 -- the blocks of a string under a cipher, in place: how many bytes they have, or why the call is not made
-abbrev pub Mapped : Result CipherChoice NotMade → (CipherChoice → ℕ → ℕ) → (was out : List ℕ) → ℕ → Type 0
-Mapped (Ok choice) map was out code = (code ≡ 16 * (length was / 16)) × (out ≡ mapped (map choice) was)
+abbrev pub Mapped : Result KeyedCipher NotMade → (CipherChoice → ℕ → ℕ) → (was out : List ℕ) → ℕ → Type 0
+Mapped (Ok keyed) map was out code = MapsBlocks (map keyed.cipher) was out code
 Mapped (Err why) map was out code = (code ≡ not_made_code why) × (out ≡ was)
 
 pub record BlocksMapped (cipher : ℕ) (key : List ℕ) (map : CipherChoice → ℕ → ℕ) (was out : List ℕ) (code : ℕ) : Type 0 where
-  pub choice : Result CipherChoice NotMade
+  pub choice : Result KeyedCipher NotMade
   pub chosen : CipherIs cipher (length key) choice
   pub given : Mapped choice map was out code

@@ -4,8 +4,10 @@ use Rattle.mode.specs.declared.fault.ModeFault.{ModeFault}
 use Rattle.mode.specs.Faults.{number_of as mode_number, place_of as mode_place}
 use Rattle.frame.specs.declared.fault.FrameFault.{FrameFault}
 use Rattle.frame.specs.Faults.{number_of, place_of}
-use Rattle.capi.specs.declared.NotMade.{NotMade}
-use Rattle.capi.specs.declared.NotMade.TheVariants.{UnknownCipher, UnknownMasking, KeyLength, NonceLength, TagLength, UnknownMode}
+use Rattle.capi.specs.declared.choices.NotMade.{NotMade}
+use Rattle.capi.specs.declared.choices.NotMade.TheVariants.{UnknownCipher, UnknownMasking, KeyLength, NonceLength, TagLength, UnknownMode}
+use Rattle.capi.specs.declared.codes.Fault.{Fault}
+use Rattle.capi.specs.declared.codes.Fault.TheVariants.{Uncalled, InMode, InFrame}
 
 -- what every code has that is no length
 abbrev pub top_bit : ℕ
@@ -35,3 +37,13 @@ why_number UnknownMode = 6
 
 abbrev pub not_made_code : NotMade → ℕ
 not_made_code why = top_bit + 65536 * why_number why
+
+-- why a call has no length, of each kind
+abbrev pub fault_code : Fault → ℕ
+fault_code (Uncalled why) = not_made_code why
+fault_code (InMode fault) = refusal (mode_number fault) (mode_place fault)
+fault_code (InFrame fault) = refusal (number_of fault) (place_of fault)
+
+abbrev pub code_of : Result ℕ Fault → ℕ
+code_of (Ok n) = n
+code_of (Err fault) = fault_code fault

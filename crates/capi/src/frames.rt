@@ -1,48 +1,55 @@
 // Frames, sealed and opened for C.
 ghost use Rattle.std.specs.Prelude.{◌≡◌};
-ghost use Rattle.mode.specs.Sealing.{Maps};
-ghost use Rattle.mode.specs.Pairs.{maps_of};
-ghost use Rattle.capi.specs.Choices.{maps_under};
+ghost use Rattle.frame.specs.Gives.{FrameSeals, FrameOpens};
+ghost use Rattle.capi.specs.Codes.{code_of};
 ghost use Rattle.capi.specs.Answers.{FrameSealed, FrameOpened, Called};
 
-use crate::{Choice, CipherChoice, MaskingChoice, frame_code, key_of, with_aes, with_speck};
+use crate::calls::PairCall;
+use crate::choices::Choice;
+use crate::codes::{Fault, code};
 use cipher::Cipher;
-use masking::{Doubling, Masking, Tower};
+use frame::FrameFault;
+use masking::Masking;
 use mode::Pair;
 
-// Seals over any pair.
-fn seal_with<C: Cipher, M: Masking>(
-    pair: &Pair<C, M>,
+// What is sealed into a frame.
+#[derive(Clone, Copy)]
+struct Sealing<'a> {
     sender: u8,
     number: u64,
     mode: u8,
-    clear: &[u8],
-    message: &[u8],
-    out: &mut [u8],
-) -> u64
-    ensures { (w : Maps) → maps_of C.forward C.backward M.onward M.inward pair.now ≡ w → FrameSealed w sender number mode clear.now message.now out.old out.new result }
-{
-    frame_code(frame::seal(pair, sender, number, mode, clear, message, out))
+    clear: &'a [u8],
+    message: &'a [u8],
 }
 
-// Seals over the pair that was chosen.
-fn seal_under(
-    choice: Choice,
-    key: [u8; 16],
-    sender: u8,
-    number: u64,
-    mode: u8,
-    clear: &[u8],
-    message: &[u8],
-    out: &mut [u8],
-) -> u64
-    ensures { FrameSealed (maps_under choice.cipher choice.masking key) sender number mode clear.now message.now out.old out.new result }
+impl<'a> PairCall for Sealing<'a> {
+    type Answer = Result<usize, FrameFault>;
+
+    ghost gives = { λ it w was out answer. FrameSeals w it.sender it.number it.mode it.clear.now it.message.now was out answer };
+
+    fn with<C: Cipher, M: Masking>(
+        self,
+        pair: &Pair<C, M>,
+        out: &mut [u8],
+    ) -> Result<usize, FrameFault> {
+        frame::seal(
+            pair,
+            self.sender,
+            self.number,
+            self.mode,
+            self.clear,
+            self.message,
+            out,
+        )
+    }
+}
+
+// Seals over the pair that the numbers choose.
+fn seal(cipher: u8, masking: u8, key: &[u8], call: Sealing, out: &mut [u8]) -> Result<usize, Fault>
+    ensures { Called cipher masking key.now (λ w. FrameSealed w call.entry.sender call.entry.number call.entry.mode call.entry.clear.now call.entry.message.now out.old out.new (code_of result)) (out.new ≡ out.old) (code_of result) }
 {
-    under!(
-        choice,
-        key,
-        seal_with(sender, number, mode, clear, message, out)
-    )
+    let choice = Choice::of(cipher, masking, key)?;
+    Ok(choice.run(call, out)?)
 }
 
 // Seals a message into a frame at the output's start; answers its length or why not.
@@ -59,41 +66,47 @@ pub fn sealed_frames_seal(
 ) -> u64
     ensures { Called cipher masking key.now (λ w. FrameSealed w sender number mode clear.now message.now out.old out.new result) (out.new ≡ out.old) result }
 {
-    match Choice::of(cipher, masking, key.len()) {
-        Ok(choice) => seal_under(
-            choice,
-            key_of(key),
-            sender,
-            number,
-            mode,
-            clear,
-            message,
-            out,
-        ),
-        Err(why) => why.code(),
+    let call = Sealing {
+        sender,
+        number,
+        mode,
+        clear,
+        message,
+    };
+    code(seal(cipher, masking, key, call, out))
+}
+
+// What is opened as a frame.
+#[derive(Clone, Copy)]
+struct Opening<'a> {
+    frame: &'a [u8],
+}
+
+impl<'a> PairCall for Opening<'a> {
+    type Answer = Result<usize, FrameFault>;
+
+    ghost gives = { λ it w was out answer. FrameOpens w it.frame.now was out answer };
+
+    fn with<C: Cipher, M: Masking>(
+        self,
+        pair: &Pair<C, M>,
+        out: &mut [u8],
+    ) -> Result<usize, FrameFault> {
+        frame::open(pair, self.frame, out)
     }
 }
 
-// Opens over any pair.
-fn open_with<C: Cipher, M: Masking>(pair: &Pair<C, M>, frame: &[u8], out: &mut [u8]) -> u64
-    ensures { (w : Maps) → maps_of C.forward C.backward M.onward M.inward pair.now ≡ w → FrameOpened w frame.now out.old out.new result }
+// Opens over the pair that the numbers choose.
+fn open(cipher: u8, masking: u8, key: &[u8], call: Opening, out: &mut [u8]) -> Result<usize, Fault>
+    ensures { Called cipher masking key.now (λ w. FrameOpened w call.entry.frame.now out.old out.new (code_of result)) (out.new ≡ out.old) (code_of result) }
 {
-    frame_code(frame::open(pair, frame, out))
-}
-
-// Opens over the pair that was chosen.
-fn open_under(choice: Choice, key: [u8; 16], frame: &[u8], out: &mut [u8]) -> u64
-    ensures { FrameOpened (maps_under choice.cipher choice.masking key) frame.now out.old out.new result }
-{
-    under!(choice, key, open_with(frame, out))
+    let choice = Choice::of(cipher, masking, key)?;
+    Ok(choice.run(call, out)?)
 }
 
 // Opens a frame into the output's start; answers the message's length or why not.
 pub fn sealed_frames_open(cipher: u8, masking: u8, key: &[u8], frame: &[u8], out: &mut [u8]) -> u64
     ensures { Called cipher masking key.now (λ w. FrameOpened w frame.now out.old out.new result) (out.new ≡ out.old) result }
 {
-    match Choice::of(cipher, masking, key.len()) {
-        Ok(choice) => open_under(choice, key_of(key), frame, out),
-        Err(why) => why.code(),
-    }
+    code(open(cipher, masking, key, Opening { frame }, out))
 }

@@ -1,75 +1,84 @@
 // The two modes, for C.
 ghost use Rattle.std.specs.Prelude.{◌≡◌, length};
-ghost use Rattle.mode.specs.Sealing.{Maps};
-ghost use Rattle.mode.specs.Pairs.{maps_of};
-ghost use Rattle.capi.specs.Choices.{maps_under};
+ghost use Rattle.mode.specs.Gives.{SealGives, OpenGives};
+ghost use Rattle.capi.specs.Codes.{code_of};
 ghost use Rattle.capi.specs.Answers.{ModeSealed, ModeOpened, Asks, Asked, Called};
 
-use crate::{Choice, CipherChoice, MaskingChoice, NotMade, key_of, refusal, with_aes, with_speck};
-use block::{load, store};
+use crate::calls::PairCall;
+use crate::choices::{Choice, NotMade};
+use crate::codes::{Fault, code};
+use block::{Block, load, store};
 use cipher::Cipher;
-use layer::Refusal;
-use masking::{Doubling, Masking, Tower};
-use mode::{Mode, Pair};
+use masking::Masking;
+use mode::{Mode, ModeFault, Pair};
+
+// What a mode is asked, as C gives it: its number, a nonce, a header, and a message or sealed bytes.
+#[derive(Clone, Copy)]
+struct Request<'a> {
+    mode: u8,
+    nonce: &'a [u8],
+    header: &'a [u8],
+    bytes: &'a [u8],
+}
 
 // The mode of a number, if nonce and tag are blocks.
-fn asked(mode: u8, nonce_len: usize, tag_len: usize) -> Result<Mode, NotMade>
-    ensures { Asks mode nonce_len tag_len result }
+fn asked(mode: u8, nonce: &[u8], tag: &[u8]) -> Result<Mode, NotMade>
+    ensures { Asks mode (length nonce.now) (length tag.now) result }
 {
-    if nonce_len != 16 {
+    if nonce.len() != 16 {
         return Err(NotMade::NonceLength);
     }
-    if tag_len != 16 {
+    if tag.len() != 16 {
         return Err(NotMade::TagLength);
     }
-    match mode {
-        1 => Ok(Mode::Forward),
-        2 => Ok(Mode::Dual),
-        _ => Err(NotMade::UnknownMode),
+    Mode::of(mode).ok_or(NotMade::UnknownMode)
+}
+
+// What is sealed.
+#[derive(Clone, Copy)]
+struct Sealing<'a> {
+    mode: Mode,
+    nonce: Block,
+    header: &'a [u8],
+    message: &'a [u8],
+}
+
+impl<'a> PairCall for Sealing<'a> {
+    type Answer = Result<Block, ModeFault>;
+
+    ghost gives = { λ it w was out answer. SealGives w it.mode it.nonce it.header.now it.message.now was out answer };
+
+    fn with<C: Cipher, M: Masking>(
+        self,
+        pair: &Pair<C, M>,
+        out: &mut [u8],
+    ) -> Result<Block, ModeFault> {
+        pair.seal(self.mode, self.nonce, self.header, self.message, out)
     }
 }
 
-// Seals over any pair, and writes the tag.
-fn seal_with<C: Cipher, M: Masking>(
-    pair: &Pair<C, M>,
-    mode: Mode,
-    nonce: &[u8],
-    header: &[u8],
-    message: &[u8],
+// Seals over the pair that the numbers choose, and writes the tag.
+fn seal(
+    cipher: u8,
+    masking: u8,
+    key: &[u8],
+    request: Request,
     out: &mut [u8],
     tag: &mut [u8],
-) -> u64
-    requires { length tag.old ≡ 16 }
-    ensures { (w : Maps) → maps_of C.forward C.backward M.onward M.inward pair.now ≡ w → ModeSealed w mode nonce.now header.now message.now out.old out.new tag.old tag.new result }
+) -> Result<usize, Fault>
+    ensures { Called cipher masking key.now (λ w. Asked request.entry.mode (length request.entry.nonce.now) (length tag.old) (λ m. ModeSealed w m request.entry.nonce.now request.entry.header.now request.entry.bytes.now out.old out.new tag.old tag.new (code_of result)) ((out.new ≡ out.old) × (tag.new ≡ tag.old)) (code_of result)) ((out.new ≡ out.old) × (tag.new ≡ tag.old)) (code_of result) }
 {
-    match pair.seal(mode, load(nonce, 0), header, message, out) {
-        Ok(block) => {
-            store(tag, 0, block);
-            message.len() as u64
-        }
-        Err(fault) => refusal(fault.number(), fault.place()),
-    }
-}
-
-// Seals over the pair that was chosen.
-fn seal_under(
-    choice: Choice,
-    key: [u8; 16],
-    mode: Mode,
-    nonce: &[u8],
-    header: &[u8],
-    message: &[u8],
-    out: &mut [u8],
-    tag: &mut [u8],
-) -> u64
-    requires { length tag.old ≡ 16 }
-    ensures { ModeSealed (maps_under choice.cipher choice.masking key) mode nonce.now header.now message.now out.old out.new tag.old tag.new result }
-{
-    under!(
-        choice,
-        key,
-        seal_with(mode, nonce, header, message, out, tag)
-    )
+    let choice = Choice::of(cipher, masking, key)?;
+    let mode = asked(request.mode, request.nonce, tag)?;
+    let call = Sealing {
+        mode,
+        nonce: load(request.nonce, 0),
+        header: request.header,
+        message: request.bytes,
+    };
+    let block = choice.run(call, out)?;
+    store(tag, 0, block);
+    Ok(request.bytes.len())
 }
 
 // Seals a message into an output of its length, and writes the tag; answers the length or why not.
@@ -86,52 +95,68 @@ pub fn sealed_frames_mode_seal(
 ) -> u64
     ensures { Called cipher masking key.now (λ w. Asked mode (length nonce.now) (length tag.old) (λ m. ModeSealed w m nonce.now header.now message.now out.old out.new tag.old tag.new result) ((out.new ≡ out.old) × (tag.new ≡ tag.old)) result) ((out.new ≡ out.old) × (tag.new ≡ tag.old)) result }
 {
-    let choice = match Choice::of(cipher, masking, key.len()) {
-        Ok(choice) => choice,
-        Err(why) => return why.code(),
+    let request = Request {
+        mode,
+        nonce,
+        header,
+        bytes: message,
     };
-    match asked(mode, nonce.len(), tag.len()) {
-        Ok(mode) => seal_under(choice, key_of(key), mode, nonce, header, message, out, tag),
-        Err(why) => why.code(),
+    code(seal(cipher, masking, key, request, out, tag))
+}
+
+// What is opened.
+#[derive(Clone, Copy)]
+struct Opening<'a> {
+    mode: Mode,
+    nonce: Block,
+    header: &'a [u8],
+    sealed: &'a [u8],
+    tag: Block,
+}
+
+impl<'a> PairCall for Opening<'a> {
+    type Answer = Result<(), ModeFault>;
+
+    ghost gives = { λ it w was out answer. OpenGives w it.mode it.nonce it.header.now it.sealed.now it.tag was out answer };
+
+    fn with<C: Cipher, M: Masking>(
+        self,
+        pair: &Pair<C, M>,
+        out: &mut [u8],
+    ) -> Result<(), ModeFault> {
+        pair.open(
+            self.mode,
+            self.nonce,
+            self.header,
+            self.sealed,
+            self.tag,
+            out,
+        )
     }
 }
 
-// Opens over any pair.
-fn open_with<C: Cipher, M: Masking>(
-    pair: &Pair<C, M>,
-    mode: Mode,
-    nonce: &[u8],
-    header: &[u8],
-    sealed: &[u8],
+// Opens over the pair that the numbers choose.
+fn open(
+    cipher: u8,
+    masking: u8,
+    key: &[u8],
+    request: Request,
     tag: &[u8],
     out: &mut [u8],
-) -> u64
-    ensures { (w : Maps) → maps_of C.forward C.backward M.onward M.inward pair.now ≡ w → ModeOpened w mode nonce.now header.now sealed.now tag.now out.old out.new result }
+) -> Result<usize, Fault>
+    ensures { Called cipher masking key.now (λ w. Asked request.entry.mode (length request.entry.nonce.now) (length tag.now) (λ m. ModeOpened w m request.entry.nonce.now request.entry.header.now request.entry.bytes.now tag.now out.old out.new (code_of result)) (out.new ≡ out.old) (code_of result)) (out.new ≡ out.old) (code_of result) }
 {
-    match pair.open(mode, load(nonce, 0), header, sealed, load(tag, 0), out) {
-        Ok(_) => sealed.len() as u64,
-        Err(fault) => refusal(fault.number(), fault.place()),
-    }
-}
-
-// Opens over the pair that was chosen.
-fn open_under(
-    choice: Choice,
-    key: [u8; 16],
-    mode: Mode,
-    nonce: &[u8],
-    header: &[u8],
-    sealed: &[u8],
-    tag: &[u8],
-    out: &mut [u8],
-) -> u64
-    ensures { ModeOpened (maps_under choice.cipher choice.masking key) mode nonce.now header.now sealed.now tag.now out.old out.new result }
-{
-    under!(
-        choice,
-        key,
-        open_with(mode, nonce, header, sealed, tag, out)
-    )
+    let choice = Choice::of(cipher, masking, key)?;
+    let mode = asked(request.mode, request.nonce, tag)?;
+    let call = Opening {
+        mode,
+        nonce: load(request.nonce, 0),
+        header: request.header,
+        sealed: request.bytes,
+        tag: load(tag, 0),
+    };
+    choice.run(call, out)?;
+    Ok(request.bytes.len())
 }
 
 // Opens sealed bytes into an output of their length; answers the length or why not.
@@ -148,12 +173,11 @@ pub fn sealed_frames_mode_open(
 ) -> u64
     ensures { Called cipher masking key.now (λ w. Asked mode (length nonce.now) (length tag.now) (λ m. ModeOpened w m nonce.now header.now sealed.now tag.now out.old out.new result) (out.new ≡ out.old) result) (out.new ≡ out.old) result }
 {
-    let choice = match Choice::of(cipher, masking, key.len()) {
-        Ok(choice) => choice,
-        Err(why) => return why.code(),
+    let request = Request {
+        mode,
+        nonce,
+        header,
+        bytes: sealed,
     };
-    match asked(mode, nonce.len(), tag.len()) {
-        Ok(mode) => open_under(choice, key_of(key), mode, nonce, header, sealed, tag, out),
-        Err(why) => why.code(),
-    }
+    code(open(cipher, masking, key, request, tag, out))
 }

@@ -1,5 +1,4 @@
-use Rattle.std.proofs.Common.{◌≡◌, ℕ, ◌/◌, length, refl, subst, arith}
-use Rattle.capi.specs.Answers.{mapped}
+use Rattle.std.proofs.Common.{◌≡◌, ◌/◌, length, refl, arith}
 use Rattle.capi.proofs.Places.{first, again, ends}
 use Rattle.capi.proofs.blocks.encrypt_each.Goals as goal
 
@@ -16,7 +15,5 @@ returns g c =
     let n : c.loop-i.i ≡ length c.args.bytes.now / 16 = omega arith in
     record {
       count = refl;
-      blocks = λ f e.
-          subst (λ (h : ℕ → ℕ). c.loop-i.bytes ≡ mapped h c.args.bytes.now) e
-          (ends (g.C.Cipher.forward c.args.cipher.now) c.loop-i.i c.args.bytes.now c.loop-i.bytes n c.loop-i.invariant);
+      blocks = ends (g.C.Cipher.forward c.args.cipher.now) c.loop-i.i c.args.bytes.now c.loop-i.bytes n c.loop-i.invariant;
     }
