@@ -17,17 +17,18 @@ use Rattle.capi.specs.declared.choices.CipherChoice.{CipherChoice}
 use Rattle.capi.specs.Choices.{OneOrTwo, CipherIs, Chooses, maps_under}
 use Rattle.capi.specs.Codes.{frame_code_of, mode_code, not_made_code}
 
--- sealing a frame: the code of an answer that the frame's definition allows
-pub record FrameSealed (w : Maps) (sender number mode : ℕ) (clear message was out : List ℕ) (code : ℕ) : Type 0 where
+-- the code of an answer that a frame's definition allows
+pub record FrameAnswers (Gives : Result ℕ FrameFault → Type 0) (code : ℕ) : Type 0 where
   pub answer : Result ℕ FrameFault
-  pub gives : FrameSeals w sender number mode clear message was out answer
+  pub gives : Gives answer
   pub code_is : code ≡ frame_code_of answer
 
--- opening one
-pub record FrameOpened (w : Maps) (frame was out : List ℕ) (code : ℕ) : Type 0 where
-  pub answer : Result ℕ FrameFault
-  pub gives : FrameOpens w frame was out answer
-  pub code_is : code ≡ frame_code_of answer
+-- sealing a frame, and opening one
+abbrev pub FrameSealed : Maps → (sender number mode : ℕ) (clear message was out : List ℕ) → ℕ → Type 0
+FrameSealed w sender number mode clear message was out code = FrameAnswers (FrameSeals w sender number mode clear message was out) code
+
+abbrev pub FrameOpened : Maps → (frame was out : List ℕ) → ℕ → Type 0
+FrameOpened w frame was out code = FrameAnswers (FrameOpens w frame was out) code
 
 -- a call under the cipher and the masking of these numbers: what it gives under their maps, or why it is not made, with all as it was
 abbrev pub Under : Result Choice NotMade → List ℕ → (Maps → Type 0) → Type 0 → ℕ → Type 0
@@ -83,12 +84,16 @@ mapped f bs = through (λ i. f) (length bs / 16) bs ++ drop (16 * (length bs / 1
 abbrev pub MapsBlocks : (ℕ → ℕ) → (was out : List ℕ) → ℕ → Type 0
 MapsBlocks f was out count = (count ≡ 16 * (length was / 16)) × (out ≡ mapped f was)
 
--- the blocks of a string under a cipher, in place: how many bytes they have, or why the call is not made
-abbrev pub Mapped : Result KeyedCipher NotMade → (CipherChoice → ℕ → ℕ) → (was out : List ℕ) → ℕ → Type 0
-Mapped (Ok keyed) map was out code = MapsBlocks (map keyed.cipher) was out code
-Mapped (Err why) map was out code = (code ≡ not_made_code why) × (out ≡ was)
+-- a call under the cipher of this number: what it gives, or why it is not made, with all as it was
+abbrev pub UnderCipher : Result KeyedCipher NotMade → (CipherChoice → ℕ → Type 0) → Type 0 → ℕ → Type 0
+UnderCipher (Ok keyed) Gives Stays code = Gives keyed.cipher code
+UnderCipher (Err why) Gives Stays code = (code ≡ not_made_code why) × Stays
 
-pub record BlocksMapped (cipher : ℕ) (key : List ℕ) (map : CipherChoice → ℕ → ℕ) (was out : List ℕ) (code : ℕ) : Type 0 where
+pub record BlocksCalled (cipher : ℕ) (key : List ℕ) (Gives : CipherChoice → ℕ → Type 0) (Stays : Type 0) (code : ℕ) : Type 0 where
   pub choice : Result KeyedCipher NotMade
   pub chosen : CipherIs cipher (length key) choice
-  pub given : Mapped choice map was out code
+  pub given : UnderCipher choice Gives Stays code
+
+-- the blocks of a string under a cipher, in place: how many bytes they have, or why the call is not made
+abbrev pub BlocksMapped : ℕ → List ℕ → (CipherChoice → ℕ → ℕ) → (was out : List ℕ) → ℕ → Type 0
+BlocksMapped cipher key map was out code = BlocksCalled cipher key (λ choice. MapsBlocks (map choice) was out) (out ≡ was) code

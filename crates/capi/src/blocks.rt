@@ -2,7 +2,7 @@
 ghost use Rattle.std.specs.Prelude.{◌≡◌, ℕ, ◌*◌, ◌/◌, length};
 ghost use Rattle.capi.specs.Choices.{forward_under, backward_under};
 ghost use Rattle.capi.specs.Codes.{code_of};
-ghost use Rattle.capi.specs.Answers.{mapped, BlocksMapped, MapsBlocks};
+ghost use Rattle.capi.specs.Answers.{mapped, BlocksCalled, BlocksMapped, MapsBlocks};
 
 use crate::calls::CipherCall;
 use crate::choices::KeyedCipher;
@@ -15,6 +15,7 @@ fn encrypt_each<C: Cipher>(cipher: &C, bytes: &mut [u8]) -> usize
     ensures count { result ≡ 16 * (length bytes.old / 16) }
     ensures blocks { bytes.new ≡ mapped (C.forward cipher.now) bytes.old }
 {
+    // By place: tried with chunks_exact_mut, after whose loop a proof knows no byte of the string.
     let count = bytes.len() / 16;
     for i in 0..count {
         let block = load(bytes, 16 * i);
@@ -51,30 +52,28 @@ impl CipherCall for Decryption {
     }
 }
 
-// Encrypts every whole block in place; answers how many bytes they have, or why not.
-fn encrypt(cipher: u8, key: &[u8], bytes: &mut [u8]) -> Result<usize, Fault>
-    ensures { BlocksMapped cipher key.now (forward_under key.now) bytes.old bytes.new (code_of result) }
+// Makes a call over the cipher that a number chooses.
+fn map_blocks<F: CipherCall<Answer = usize> + Drop>(
+    cipher: u8,
+    key: &[u8],
+    call: F,
+    bytes: &mut [u8],
+) -> Result<usize, Fault>
+    ensures { BlocksCalled cipher key.now (λ choice. F.gives call (forward_under key.now choice) (backward_under key.now choice) bytes.old bytes.new) (bytes.new ≡ bytes.old) (code_of result) }
 {
-    Ok(KeyedCipher::of(cipher, key)?.run(Encryption, bytes))
+    Ok(KeyedCipher::of(cipher, key)?.run(call, bytes))
 }
 
 // Encrypts every whole block in place; answers how many bytes they have, or why not.
 pub fn sealed_frames_encrypt_blocks(cipher: u8, key: &[u8], bytes: &mut [u8]) -> u64
     ensures { BlocksMapped cipher key.now (forward_under key.now) bytes.old bytes.new result }
 {
-    code(encrypt(cipher, key, bytes))
-}
-
-// Decrypts every whole block in place; answers how many bytes they have, or why not.
-fn decrypt(cipher: u8, key: &[u8], bytes: &mut [u8]) -> Result<usize, Fault>
-    ensures { BlocksMapped cipher key.now (backward_under key.now) bytes.old bytes.new (code_of result) }
-{
-    Ok(KeyedCipher::of(cipher, key)?.run(Decryption, bytes))
+    code(map_blocks(cipher, key, Encryption, bytes))
 }
 
 // Decrypts every whole block in place; answers how many bytes they have, or why not.
 pub fn sealed_frames_decrypt_blocks(cipher: u8, key: &[u8], bytes: &mut [u8]) -> u64
     ensures { BlocksMapped cipher key.now (backward_under key.now) bytes.old bytes.new result }
 {
-    code(decrypt(cipher, key, bytes))
+    code(map_blocks(cipher, key, Decryption, bytes))
 }

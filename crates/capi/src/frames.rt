@@ -2,7 +2,7 @@
 ghost use Rattle.std.specs.Prelude.{◌≡◌};
 ghost use Rattle.frame.specs.Gives.{FrameSeals, FrameOpens};
 ghost use Rattle.capi.specs.Codes.{code_of};
-ghost use Rattle.capi.specs.Answers.{FrameSealed, FrameOpened, Called};
+ghost use Rattle.capi.specs.Answers.{FrameAnswers, FrameSealed, FrameOpened, Called};
 
 use crate::calls::PairCall;
 use crate::choices::Choice;
@@ -11,6 +11,20 @@ use cipher::Cipher;
 use frame::FrameFault;
 use masking::Masking;
 use mode::Pair;
+
+// Makes a call over the pair that the numbers choose.
+fn framed<F: PairCall<Answer = Result<usize, FrameFault>> + Drop>(
+    cipher: u8,
+    masking: u8,
+    key: &[u8],
+    call: F,
+    out: &mut [u8],
+) -> Result<usize, Fault>
+    ensures { Called cipher masking key.now (λ w. FrameAnswers (F.gives call w out.old out.new) (code_of result)) (out.new ≡ out.old) (code_of result) }
+{
+    let choice = Choice::of(cipher, masking, key)?;
+    Ok(choice.run(call, out)?)
+}
 
 // What is sealed into a frame.
 #[derive(Clone, Copy)]
@@ -44,14 +58,6 @@ impl<'a> PairCall for Sealing<'a> {
     }
 }
 
-// Seals over the pair that the numbers choose.
-fn seal(cipher: u8, masking: u8, key: &[u8], call: Sealing, out: &mut [u8]) -> Result<usize, Fault>
-    ensures { Called cipher masking key.now (λ w. FrameSealed w call.entry.sender call.entry.number call.entry.mode call.entry.clear.now call.entry.message.now out.old out.new (code_of result)) (out.new ≡ out.old) (code_of result) }
-{
-    let choice = Choice::of(cipher, masking, key)?;
-    Ok(choice.run(call, out)?)
-}
-
 // Seals a message into a frame at the output's start; answers its length or why not.
 pub fn sealed_frames_seal(
     cipher: u8,
@@ -73,7 +79,7 @@ pub fn sealed_frames_seal(
         clear,
         message,
     };
-    code(seal(cipher, masking, key, call, out))
+    code(framed(cipher, masking, key, call, out))
 }
 
 // What is opened as a frame.
@@ -96,17 +102,9 @@ impl<'a> PairCall for Opening<'a> {
     }
 }
 
-// Opens over the pair that the numbers choose.
-fn open(cipher: u8, masking: u8, key: &[u8], call: Opening, out: &mut [u8]) -> Result<usize, Fault>
-    ensures { Called cipher masking key.now (λ w. FrameOpened w call.entry.frame.now out.old out.new (code_of result)) (out.new ≡ out.old) (code_of result) }
-{
-    let choice = Choice::of(cipher, masking, key)?;
-    Ok(choice.run(call, out)?)
-}
-
 // Opens a frame into the output's start; answers the message's length or why not.
 pub fn sealed_frames_open(cipher: u8, masking: u8, key: &[u8], frame: &[u8], out: &mut [u8]) -> u64
     ensures { Called cipher masking key.now (λ w. FrameOpened w frame.now out.old out.new result) (out.new ≡ out.old) result }
 {
-    code(open(cipher, masking, key, Opening { frame }, out))
+    code(framed(cipher, masking, key, Opening { frame }, out))
 }

@@ -1,4 +1,5 @@
-// Frames, modes and block ciphers over numbers and byte strings, as C calls them through capi_c.
+// Frames, modes and block ciphers over numbers and byte strings, as C calls them through capi_c. The parameters of the public calls
+// are those of the interface for C, one by one; inside they travel in structs.
 #![tactic(auto)]
 
 mod blocks;

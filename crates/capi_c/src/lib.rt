@@ -1,4 +1,5 @@
-// The exports of the library for C: each is the call of its name in capi, and promises the same.
+// The exports of the library for C: each is the call of its name in capi, and promises the same. The interface for C is why clauses
+// and parameters stand here again: an export passes numbers and byte strings one by one, and its clauses are its own.
 #![tactic(auto)]
 
 ghost use Rattle.std.specs.Prelude.{◌≡◌, length};

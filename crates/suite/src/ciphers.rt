@@ -10,7 +10,8 @@ use aes::Aes128;
 use block::Block;
 use cipher::{Cipher, Identity, Inverse, Speck};
 
-// A cipher as it comes: the identity, AES-128 or Speck128/128.
+// A cipher as it comes: the identity, AES-128 or Speck128/128. Each method matches for itself: no function may hand the cipher out
+// as a dyn value, and a trait with one generic method, as capi has, would need a struct for each call, which is longer than two matches.
 #[derive(Drop)]
 pub enum Plain {
     Identity(Identity),

@@ -4,7 +4,7 @@ ghost use Rattle.suite.specs.Maskings.{onward_of, inward_of, masking_undo};
 use block::Block;
 use masking::{Doubling, Idle, Masking, Tower};
 
-// The masking that is chosen.
+// The masking that is chosen. Each method matches for itself, as those of Plain do and for the same reason.
 #[derive(Clone, Copy, PartialEq, Eq, Debug)]
 pub enum AnyMasking {
     Idle,
