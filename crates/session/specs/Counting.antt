@@ -1,11 +1,13 @@
 -- How a line of a script is counted: it is passed over, not read, or makes exactly one call, which is accepted or refused.
-use Rattle.std.specs.Prelude.{◌≡◌, ℕ, false, ◌⊎◌, List, [], ◌++◌, Ok, Err, vec_len, string_bytes, codes, IsUtf8, decimal, Result, String}
+use Rattle.std.specs.Prelude.{◌≡◌, ℕ, false, ◌⊎◌, List, [], ◌++◌, Ok, Err, string_bytes, codes, IsUtf8, decimal, Result, String}
+use Rattle.std.specs.BTreeMap.{btree_map_len}
 use Rattle.std.specs.declared.alloc.Global.{Global}
 use Rattle.script.specs.declared.tally.Tally.{Tally}
 use Rattle.session.specs.Counts.{Zero, Accepts, Refuses, Passes}
 use Rattle.script.specs.declared.call.MaskingSetting.TheVariants.{Doubling}
 use Rattle.script.specs.declared.call.PlainSetting.TheVariants.{Identity}
 use Rattle.session.specs.declared.Session.{Session}
+use Rattle.session.specs.declared.stations.Stations.{Stations}
 use Rattle.session.specs.Replies.{lined}
 use Rattle.script.specs.declared.reason.Reason.{Reason}
 use Rattle.script.specs.declared.reason.Reason.TheVariants.{NotText}
@@ -73,8 +75,11 @@ Tried line s t (Err (Because why)) = (number : ℕ) (text : List ℕ) (u : Tally
 Tried line s t (Err (Memory none)) = Unit {0}
 
 -- before the first line: no station, nothing counted, and identity and doubling for the stations to come
-pub record New (s : Session) : Type 0 where
+pub record NoStations (s : Stations) : Type 0 where
   pub cipher_is : s.cipher ≡ record { plain = Identity; inverse = false }
   pub masking_is : s.masking ≡ Doubling
-  pub members_are : vec_len s.members ≡ 0
+  pub members_are : btree_map_len s.members ≡ 0
+
+pub record New (s : Session) : Type 0 where
+  pub stations_are : NoStations s.stations
   pub tally_is : Zero s.tally
