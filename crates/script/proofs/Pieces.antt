@@ -1,6 +1,9 @@
 -- The first piece of a text is its first word, unless it is empty.
-use Rattle.std.proofs.Common.{◌≡◌, ℕ, zero, suc, ◌<◌, Bool, true, false, cond, eqb, List, [], ◌∷◌, ◌++◌, length, get_or, sym, refl, ap, ◌∙◌, append_assoc, append-nil, arith, length-append}
+use Rattle.std.proofs.Common.{◌≡◌, ℕ, zero, suc, ◌<◌, Bool, true, false, cond, eqb, List, [], ◌∷◌, ◌++◌, length, get_or, Some, None, sym, refl, ap, ◌∙◌, append_assoc, append-nil, arith}
 use Rattle.std.proofs.lemmas.Bool.{ne_eqb, eqb-false, eqb-true}
+use lib.Utf8.{encode}
+use Rattle.std.proofs.lemmas.Str.Pattern.{drop_at_char}
+use Rattle.std.specs.Str.Pattern.{CutsPrefixes, FindsCharPrefix, IsFullyTrimmed}
 use Rattle.script.specs.Words.{keep, words_from, words_of}
 
 -- no space in it
@@ -44,15 +47,8 @@ keep_some : (p : List ℕ) (ws : List (List ℕ)) → 0 < length p → keep p ws
 keep_some [] ws h = absurd (let f : ⊥ = omega arith in f)
 keep_some (c ∷ cs) ws h = refl
 
-keep_none : (p : List ℕ) (ws : List (List ℕ)) → length p ≡ 0 → keep p ws ≡ ws
-keep_none [] ws h = refl
-keep_none (c ∷ cs) ws h = absurd (let f : ⊥ = omega arith in f)
-
 pub piece_some : (text p r : List ℕ) → text ≡ p ++ (32 ∷ r) → Solid p → 0 < length p → words_of text ≡ p ∷ words_of r
 piece_some text p r e h l = words_piece text p r e h ∙ keep_some p (words_of r) l
-
-pub piece_none : (text p r : List ℕ) → text ≡ p ++ (32 ∷ r) → Solid p → length p ≡ 0 → words_of text ≡ words_of r
-piece_none text p r e h l = words_piece text p r e h ∙ keep_none p (words_of r) l
 
 pub last_some : (text : List ℕ) → Solid text → 0 < length text → words_of text ≡ text ∷ words_of []
 unfolding words_from
@@ -63,13 +59,28 @@ unfolding words_from
 last_none [] l = refl
 last_none (c ∷ cs) l = absurd (let f : ⊥ = omega arith in f)
 
--- what follows the space is shorter
-pub shorter : (text p r : List ℕ) → text ≡ p ++ (32 ∷ r) → length r < length text
-shorter text p r e = let a : length text ≡ length (p ++ (32 ∷ r)) = ap length e in let b = length-append p (32 ∷ r) in omega arith
-
 -- what the test for an empty text says
 pub is_long : (b : Bool) (xs : List ℕ) → b ≡ eqb (length xs) 0 → b ≡ false → 0 < length xs
 is_long b xs e f = let ne : length xs ≡ 0 → ⊥ = eqb-false (length xs) 0 (sym e ∙ f) in omega (arith, ne)
 
 pub is_none : (b : Bool) (xs : List ℕ) → b ≡ eqb (length xs) 0 → b ≡ true → length xs ≡ 0
 is_none b xs e t = eqb-true (length xs) 0 (sym e ∙ t)
+
+-- spaces that are cut off before the first word
+pub trimmed : (s : List ℕ) (ns : List ℕ) (r : List ℕ) → CutsPrefixes (FindsCharPrefix 32) s ns r → words_of s ≡ words_of r
+unfolding words_from
+trimmed s [] r e = ap words_of (sym e)
+trimmed s (n ∷ ns) r (m, cuts, here, rest) =
+    trimmed s ns m cuts ∙ ap words_of (drop_at_char 32 m 0 n here (omega arith)) ∙ ap words_of (sym rest)
+
+-- what is left begins with no space
+pub starts_solid : (r : List ℕ) → IsFullyTrimmed (FindsCharPrefix 32) r → get_or r 0 0 ≡ 32 → ⊥
+unfolding encode
+starts_solid [] h e = absurd (let f : ⊥ = omega arith in f)
+starts_solid (x ∷ xs) (None, never, none) e = never xs (ap (λ (y : ℕ). y ∷ xs) e)
+starts_solid (x ∷ xs) (Some n, here, none) e = let ends = here.ends in absurd (let f : ⊥ = omega arith in f)
+
+-- a piece of a text that begins with no space is not empty
+pub piece_begins : (text p r : List ℕ) → text ≡ p ++ (32 ∷ r) → (get_or text 0 0 ≡ 32 → ⊥) → 0 < length p
+piece_begins text [] r e solid = absurd (solid (ap (λ (t : List ℕ). get_or t 0 0) e))
+piece_begins text (c ∷ cs) r e solid = omega arith

@@ -6,6 +6,8 @@ use Rattle.script.specs.declared.answer.PartsLine.{PartsLine}
 use Rattle.script.specs.declared.answer.OutLine.{OutLine}
 use Rattle.script.specs.declared.answer.NotReadLine.{NotReadLine}
 use Rattle.script.specs.declared.answer.Answer.{Answer}
+use Rattle.script.specs.Hex.{hex_text_of}
+use Rattle.script.specs.Reasons.{text_of}
 use Rattle.script.specs.declared.answer.Answer.TheVariants.{Made, Ticket, GivenUp, Sealed, Opened, Refused}
 
 abbrev pub answer_line : Answer → List ℕ
@@ -27,10 +29,10 @@ state_line s =
 
 abbrev pub parts_line : PartsLine → List ℕ
 parts_line p =
-    codes "clear " ++ (decimal p.clear_at ++ (codes " " ++ (p.clear.now ++ (codes " sealed " ++ (decimal p.sealed_at ++ (codes " " ++ (p.sealed.now ++ (codes " tag " ++ (decimal p.tag_at ++ (codes " " ++ p.tag.now))))))))))
+    codes "clear " ++ (decimal p.clear_at ++ (codes " " ++ (hex_text_of p.clear.0.now ++ (codes " sealed " ++ (decimal p.sealed_at ++ (codes " " ++ (hex_text_of p.sealed.0.now ++ (codes " tag " ++ (decimal p.tag_at ++ (codes " " ++ hex_text_of p.tag.0.now))))))))))
 
 abbrev pub out_line : OutLine → List ℕ
-out_line o = codes "out " ++ o.0.now
+out_line o = codes "out " ++ hex_text_of o.0.0.now
 
 abbrev pub not_read_line : NotReadLine → List ℕ
-not_read_line n = codes "line " ++ (decimal n.line ++ (codes ": " ++ n.reason.now))
+not_read_line n = codes "line " ++ (decimal n.line ++ (codes ": " ++ text_of n.reason))

@@ -1,10 +1,11 @@
 -- What a line of a script says: nothing, a setting or exactly one call, or the reason why it is not read.
-use Rattle.std.specs.Prelude.{◌≡◌, ℕ, Bool, true, false, cond, List, [], ◌∷◌, Ok, Err, codes, Result, ◌==◌, slice_index}
+use Rattle.std.specs.Prelude.{◌≡◌, ℕ, cond, List, [], ◌∷◌, Ok, Err, codes, Result, ◌==◌, slice_index}
 use Rattle.std.specs.Str.{bytes_eq}
 use Rattle.script.specs.declared.call.Call.{Call}
 use Rattle.script.specs.declared.call.Line.{Line}
 use Rattle.script.specs.declared.call.Line.TheVariants.{Nothing, Cipher, Masking, Call as OneCall}
 use Rattle.script.specs.declared.call.CipherSetting.{CipherSetting}
+use Rattle.script.specs.declared.call.CipherSetting.TheVariants.{Plain, Inverse}
 use Rattle.script.specs.declared.call.MaskingSetting.{MaskingSetting}
 use Rattle.script.specs.declared.call.MaskingSetting.TheVariants.{Doubling, Tower}
 use Rattle.script.specs.declared.call.PlainSetting.{PlainSetting}
@@ -26,14 +27,15 @@ plain_of word ws =
     cond (bytes_eq word (codes "identity")) (only Identity ws)
     (cond (bytes_eq word (codes "aes")) (under Aes (last_key_of ws)) (cond (bytes_eq word (codes "speck")) (under Speck (last_key_of ws)) (Err NotACipher)))
 
-abbrev pub setting_of : Bool → List (List ℕ) → Result CipherSetting Reason
-setting_of inverse [] = Err WordMissing
-setting_of inverse (w ∷ ws) = under (λ p. record { plain = p; inverse = inverse }) (plain_of w ws)
+-- a cipher, or the inverse of one
+abbrev pub setting_of : (PlainSetting → CipherSetting) → List (List ℕ) → Result CipherSetting Reason
+setting_of setting [] = Err WordMissing
+setting_of setting (w ∷ ws) = under setting (plain_of w ws)
 
 -- with the word inverse before it, or not
 abbrev pub cipher_of : List (List ℕ) → Result CipherSetting Reason
 cipher_of [] = Err WordMissing
-cipher_of (w ∷ ws) = cond (bytes_eq w (codes "inverse")) (setting_of true ws) (setting_of false (w ∷ ws))
+cipher_of (w ∷ ws) = cond (bytes_eq w (codes "inverse")) (setting_of Inverse ws) (setting_of Plain (w ∷ ws))
 
 abbrev pub masking_by_name : List ℕ → Result MaskingSetting Reason
 masking_by_name word =

@@ -42,11 +42,15 @@ pub data Value : Type 0 where
   count : ℕ → Value
   bytes : List ℕ → Value
 
+-- the count that a number is
+abbrev pub counted : ℕ → List ℕ → Result Value Reason
+counted most word = under count (number_of most word)
+
 abbrev pub value_of : Field → List ℕ → Result Value Reason
 value_of name word = Ok (text word)
-value_of byte word = under count (number_of 255 word)
-value_of number word = under count (number_of (2 ^ 64 - 1) word)
-value_of space word = under count (number_of 65536 word)
+value_of byte word = counted 255 word
+value_of number word = counted (2 ^ 64 - 1) word
+value_of space word = counted 65536 word
 value_of string word = under bytes (string_of word)
 
 -- one word to a field, in their order

@@ -1,7 +1,10 @@
 // How the answer to a call is printed.
 ghost use Rattle.std.specs.Prelude.{Some};
+ghost use Rattle.script.specs.Hex.{hex_text_of};
 ghost use Rattle.script.specs.Answers.{answer_line, or_dash, not_read_line, out_line, parts_line, state_line};
 
+use crate::reason::Reason;
+use hexadecimal::Digits;
 use layer::Layer;
 use std::fmt;
 
@@ -65,12 +68,14 @@ impl fmt::Display for StateLine {
     ghost output = { λ s. Some (state_line s) };
 
     fn fmt<W: fmt::Write>(&self, f: &mut fmt::Formatter<W>) -> fmt::Result {
-        let next = self.next;
-        let out = self.out;
-        let highest = self.highest;
-        let reserved = self.reserved;
-        let sealed = self.sealed;
-        let written_off = self.written_off;
+        let StateLine {
+            next,
+            out,
+            highest,
+            reserved,
+            sealed,
+            written_off,
+        } = self;
         write!(
             f,
             "next {next} out {out} highest {highest} reserved {reserved} sealed {sealed} written-off {written_off}"
@@ -78,27 +83,44 @@ impl fmt::Display for StateLine {
     }
 }
 
-// What a call for the parts of a frame answers: the place and the hexadecimal text of each.
+// Bytes, which are printed as pairs of hexadecimal digits, or as - where there are none.
+#[derive(Clone, Copy)]
+pub struct HexText<'a>(pub &'a [u8]);
+
+impl<'a> fmt::Display for HexText<'a> {
+    ghost output = { λ h. Some (hex_text_of h.0.now) };
+
+    fn fmt<W: fmt::Write>(&self, f: &mut fmt::Formatter<W>) -> fmt::Result {
+        match self.0 {
+            [] => f.write_str("-"),
+            bytes => write!(f, "{}", Digits(bytes)),
+        }
+    }
+}
+
+// What a call for the parts of a frame answers: the place and the bytes of each.
 #[derive(Clone, Copy)]
 pub struct PartsLine<'a> {
     pub clear_at: usize,
-    pub clear: &'a str,
+    pub clear: HexText<'a>,
     pub sealed_at: usize,
-    pub sealed: &'a str,
+    pub sealed: HexText<'a>,
     pub tag_at: usize,
-    pub tag: &'a str,
+    pub tag: HexText<'a>,
 }
 
 impl<'a> fmt::Display for PartsLine<'a> {
     ghost output = { λ p. Some (parts_line p) };
 
     fn fmt<W: fmt::Write>(&self, f: &mut fmt::Formatter<W>) -> fmt::Result {
-        let clear_at = self.clear_at;
-        let clear = self.clear;
-        let sealed_at = self.sealed_at;
-        let sealed = self.sealed;
-        let tag_at = self.tag_at;
-        let tag = self.tag;
+        let PartsLine {
+            clear_at,
+            clear,
+            sealed_at,
+            sealed,
+            tag_at,
+            tag,
+        } = self;
         write!(
             f,
             "clear {clear_at} {clear} sealed {sealed_at} {sealed} tag {tag_at} {tag}"
@@ -106,32 +128,31 @@ impl<'a> fmt::Display for PartsLine<'a> {
     }
 }
 
-// The output buffer, as hexadecimal text.
+// The output buffer.
 #[derive(Clone, Copy)]
-pub struct OutLine<'a>(pub &'a str);
+pub struct OutLine<'a>(pub HexText<'a>);
 
 impl<'a> fmt::Display for OutLine<'a> {
     ghost output = { λ o. Some (out_line o) };
 
     fn fmt<W: fmt::Write>(&self, f: &mut fmt::Formatter<W>) -> fmt::Result {
-        let bytes = self.0;
+        let OutLine(bytes) = self;
         write!(f, "out {bytes}")
     }
 }
 
 // The number of a line that is not read, and why.
 #[derive(Clone, Copy)]
-pub struct NotReadLine<'a> {
+pub struct NotReadLine {
     pub line: u64,
-    pub reason: &'a str,
+    pub reason: Reason,
 }
 
-impl<'a> fmt::Display for NotReadLine<'a> {
+impl fmt::Display for NotReadLine {
     ghost output = { λ n. Some (not_read_line n) };
 
     fn fmt<W: fmt::Write>(&self, f: &mut fmt::Formatter<W>) -> fmt::Result {
-        let line = self.line;
-        let reason = self.reason;
+        let NotReadLine { line, reason } = self;
         write!(f, "line {line}: {reason}")
     }
 }

@@ -10,9 +10,9 @@ pub enum PlainSetting {
 
 // That cipher, or its inverse.
 #[derive(Clone, Copy)]
-pub struct CipherSetting {
-    pub plain: PlainSetting,
-    pub inverse: bool,
+pub enum CipherSetting {
+    Plain(PlainSetting),
+    Inverse(PlainSetting),
 }
 
 #[derive(Clone, Copy)]

@@ -10,7 +10,7 @@ mod tally;
 mod value;
 mod writing;
 
-pub use answer::{Answer, NotReadLine, OrDash, OutLine, PartsLine, StateLine};
+pub use answer::{Answer, HexText, NotReadLine, OrDash, OutLine, PartsLine, StateLine};
 pub use call::{Call, CipherSetting, Line, MaskingSetting, PlainSetting};
 pub use reading::read;
 pub use reason::{Reason, Unread};

@@ -1,9 +1,10 @@
 // Reading a line.
-ghost use Rattle.std.specs.Prelude.{◌≡◌, ℕ, List, IfOk, codes, ◌==◌, slice_index};
+ghost use Rattle.std.specs.Prelude.{◌≡◌, ℕ, List, [], ◌∷◌, IfOk, codes};
 ghost use Rattle.script.specs.Calls.{Takes, Reads};
 ghost use Rattle.script.specs.Said.{call_of, said};
 ghost use Rattle.script.specs.Lines.{last_key_of, plain_of, cipher_of, masking_by_name, masking_of, words_meaning, line_meaning, meaning};
 ghost use Rattle.script.specs.Results.{Gives};
+ghost use Rattle.script.specs.Values.{values_of, name as name_field, text as text_value};
 ghost use Rattle.script.specs.Words.{words_of};
 
 use crate::call::{Call, CipherSetting, Line, MaskingSetting, PlainSetting};
@@ -13,7 +14,7 @@ use std::alloc::Global;
 
 // A key, which is the last word.
 fn last_key(heap: Global, words: &mut Cursor<'_>) -> Result<[u8; 16], Unread>
-    ensures { Gives (λ k. k) (last_key_of (words_of words.old.rest.now)) result }
+    ensures { Gives (λ k. k) (last_key_of words.old) result }
 {
     let key = words.key(heap)?;
     words.end()?;
@@ -22,7 +23,7 @@ fn last_key(heap: Global, words: &mut Cursor<'_>) -> Result<[u8; 16], Unread>
 
 // The cipher that a word names, with its key where it has one.
 fn plain(heap: Global, word: &str, words: &mut Cursor<'_>) -> Result<PlainSetting, Unread>
-    ensures { Gives (λ p. p) (plain_of word.now (words_of words.old.rest.now)) result }
+    ensures { Gives (λ p. p) (plain_of word.now words.old) result }
 {
     match word {
         "identity" => {
@@ -36,25 +37,15 @@ fn plain(heap: Global, word: &str, words: &mut Cursor<'_>) -> Result<PlainSettin
 }
 
 fn cipher(heap: Global, words: &mut Cursor<'_>) -> Result<CipherSetting, Unread>
-    ensures { Gives (λ c. c) (cipher_of (words_of words.old.rest.now)) result }
+    ensures { Gives (λ c. c) (cipher_of words.old) result }
 {
     let first = words.word()?;
     match first {
         "inverse" => {
             let second = words.word()?;
-            let plain = plain(heap, second, words)?;
-            Ok(CipherSetting {
-                plain,
-                inverse: true,
-            })
+            Ok(CipherSetting::Inverse(plain(heap, second, words)?))
         }
-        _ => {
-            let plain = plain(heap, first, words)?;
-            Ok(CipherSetting {
-                plain,
-                inverse: false,
-            })
-        }
+        _ => Ok(CipherSetting::Plain(plain(heap, first, words)?)),
     }
 }
 
@@ -70,7 +61,7 @@ fn masking_named(word: &str) -> Result<MaskingSetting, Reason>
 }
 
 fn masking(words: &mut Cursor<'_>) -> Result<MaskingSetting, Unread>
-    ensures { Gives (λ m. m) (masking_of (words_of words.old.rest.now)) result }
+    ensures { Gives (λ m. m) (masking_of words.old) result }
 {
     let word = words.word()?;
     let masking = masking_named(word)?;
@@ -79,8 +70,8 @@ fn masking(words: &mut Cursor<'_>) -> Result<MaskingSetting, Unread>
 }
 
 fn station<'a>(words: &mut Cursor<'a>) -> Result<Call<'a>, Unread>
-    ensures takes { IfOk result (Takes (codes "station") (words_of words.old.rest.now)) }
-    ensures says { Gives said (call_of (codes "station") (words_of words.old.rest.now)) result }
+    ensures takes { IfOk result (Takes (codes "station") words.old) }
+    ensures says { Gives said (call_of (codes "station") words.old) result }
 {
     let name = words.word()?;
     let own = words.byte()?;
@@ -97,29 +88,20 @@ fn station<'a>(words: &mut Cursor<'a>) -> Result<Call<'a>, Unread>
     })
 }
 
-fn reserve<'a>(words: &mut Cursor<'a>) -> Result<Call<'a>, Unread>
-    ensures takes { IfOk result (Takes (codes "reserve") (words_of words.old.rest.now)) }
-    ensures says { Gives said (call_of (codes "reserve") (words_of words.old.rest.now)) result }
+// A station's name and a ticket's label, which are the last words.
+fn name_and_label<'a>(words: &mut Cursor<'a>) -> Result<(&'a str, &'a str), Unread>
+    ensures takes { IfOk result (λ p. words.old ≡ p.0.now ∷ p.1.now ∷ []) }
+    ensures says { Gives (λ p. text_value p.0.now ∷ text_value p.1.now ∷ []) (values_of (name_field ∷ name_field ∷ []) words.old) result }
 {
     let name = words.word()?;
-    let ticket = words.word()?;
+    let label = words.word()?;
     words.end()?;
-    Ok(Call::Reserve { name, ticket })
-}
-
-fn give_up<'a>(words: &mut Cursor<'a>) -> Result<Call<'a>, Unread>
-    ensures takes { IfOk result (Takes (codes "giveup") (words_of words.old.rest.now)) }
-    ensures says { Gives said (call_of (codes "giveup") (words_of words.old.rest.now)) result }
-{
-    let name = words.word()?;
-    let ticket = words.word()?;
-    words.end()?;
-    Ok(Call::GiveUp { name, ticket })
+    Ok((name, label))
 }
 
 fn seal<'a>(heap: Global, words: &mut Cursor<'a>) -> Result<Call<'a>, Unread>
-    ensures takes { IfOk result (Takes (codes "seal") (words_of words.old.rest.now)) }
-    ensures says { Gives said (call_of (codes "seal") (words_of words.old.rest.now)) result }
+    ensures takes { IfOk result (Takes (codes "seal") words.old) }
+    ensures says { Gives said (call_of (codes "seal") words.old) result }
 {
     let name = words.word()?;
     let ticket = words.word()?;
@@ -139,8 +121,8 @@ fn seal<'a>(heap: Global, words: &mut Cursor<'a>) -> Result<Call<'a>, Unread>
 }
 
 fn open<'a>(heap: Global, words: &mut Cursor<'a>) -> Result<Call<'a>, Unread>
-    ensures takes { IfOk result (Takes (codes "open") (words_of words.old.rest.now)) }
-    ensures says { Gives said (call_of (codes "open") (words_of words.old.rest.now)) result }
+    ensures takes { IfOk result (Takes (codes "open") words.old) }
+    ensures says { Gives said (call_of (codes "open") words.old) result }
 {
     let name = words.word()?;
     let frame = words.bytes(heap)?;
@@ -150,8 +132,8 @@ fn open<'a>(heap: Global, words: &mut Cursor<'a>) -> Result<Call<'a>, Unread>
 }
 
 fn parts<'a>(heap: Global, words: &mut Cursor<'a>) -> Result<Call<'a>, Unread>
-    ensures takes { IfOk result (Takes (codes "parts") (words_of words.old.rest.now)) }
-    ensures says { Gives said (call_of (codes "parts") (words_of words.old.rest.now)) result }
+    ensures takes { IfOk result (Takes (codes "parts") words.old) }
+    ensures says { Gives said (call_of (codes "parts") words.old) result }
 {
     let frame = words.bytes(heap)?;
     words.end()?;
@@ -159,8 +141,8 @@ fn parts<'a>(heap: Global, words: &mut Cursor<'a>) -> Result<Call<'a>, Unread>
 }
 
 fn state<'a>(words: &mut Cursor<'a>) -> Result<Call<'a>, Unread>
-    ensures takes { IfOk result (Takes (codes "state") (words_of words.old.rest.now)) }
-    ensures says { Gives said (call_of (codes "state") (words_of words.old.rest.now)) result }
+    ensures takes { IfOk result (Takes (codes "state") words.old) }
+    ensures says { Gives said (call_of (codes "state") words.old) result }
 {
     let name = words.word()?;
     words.end()?;
@@ -169,13 +151,19 @@ fn state<'a>(words: &mut Cursor<'a>) -> Result<Call<'a>, Unread>
 
 // The call that the words after its kind say.
 fn call<'a>(heap: Global, kind: &str, words: &mut Cursor<'a>) -> Result<Call<'a>, Unread>
-    ensures takes { IfOk result (Takes kind.now (words_of words.old.rest.now)) }
-    ensures says { Gives said (call_of kind.now (words_of words.old.rest.now)) result }
+    ensures takes { IfOk result (Takes kind.now words.old) }
+    ensures says { Gives said (call_of kind.now words.old) result }
 {
     match kind {
         "station" => station(words),
-        "reserve" => reserve(words),
-        "giveup" => give_up(words),
+        "reserve" => {
+            let (name, ticket) = name_and_label(words)?;
+            Ok(Call::Reserve { name, ticket })
+        }
+        "giveup" => {
+            let (name, ticket) = name_and_label(words)?;
+            Ok(Call::GiveUp { name, ticket })
+        }
         "seal" => seal(heap, words),
         "open" => open(heap, words),
         "parts" => parts(heap, words),
@@ -184,22 +172,12 @@ fn call<'a>(heap: Global, kind: &str, words: &mut Cursor<'a>) -> Result<Call<'a>
     }
 }
 
-// Whether a line is there for its reader alone.
-fn is_comment(line: &str) -> bool
-    ensures { result ≡ (slice_index line.now 0 == 35) }
-{
-    match line.as_bytes().first() {
-        Some(first) => *first == b'#',
-        None => false,
-    }
-}
-
 // What the words of a line say, by the first of them.
 fn words_say<'a>(heap: Global, mut words: Cursor<'a>) -> Result<Line<'a>, Unread>
-    ensures reads { (text : List ℕ) → words_of text ≡ words_of words.entry.rest.now → IfOk result (Reads text) }
-    ensures says { Gives meaning (words_meaning (words_of words.entry.rest.now)) result }
+    ensures reads { (text : List ℕ) → words_of text ≡ words.entry → IfOk result (Reads text) }
+    ensures says { Gives meaning (words_meaning words.entry) result }
 {
-    let Some(kind) = words.next_word() else {
+    let Some(kind) = words.next() else {
         return Ok(Line::Nothing);
     };
     match kind {
@@ -214,7 +192,7 @@ pub fn read(heap: Global, line: &str) -> Result<Line<'_>, Unread>
     ensures reads { IfOk result (Reads line.now) }
     ensures says { Gives meaning (line_meaning line.now) result }
 {
-    if is_comment(line) {
+    if line.starts_with('#') {
         return Ok(Line::Nothing);
     }
     words_say(heap, Cursor::new(line))

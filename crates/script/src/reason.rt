@@ -1,9 +1,10 @@
 // Why a line is not read.
-ghost use Rattle.std.specs.Prelude.{◌≡◌};
+ghost use Rattle.std.specs.Prelude.{◌≡◌, Some};
 ghost use Rattle.script.specs.Reasons.{text_of};
 ghost use Rattle.script.specs.declared.reason.Unread.TheVariants.{Because, Memory};
 
 use std::alloc::AllocError;
+use std::fmt;
 
 #[derive(Clone, Copy)]
 pub enum Reason {
@@ -47,6 +48,14 @@ impl Reason {
             Reason::UnknownTicket => "no ticket has this label",
             Reason::LabelInUse => "a ticket has this label already",
         }
+    }
+}
+
+impl fmt::Display for Reason {
+    ghost output = { λ r. Some (text_of r) };
+
+    fn fmt<W: fmt::Write>(&self, f: &mut fmt::Formatter<W>) -> fmt::Result {
+        f.write_str(self.text())
     }
 }
 

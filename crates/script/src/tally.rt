@@ -1,5 +1,5 @@
 // How many calls were made, accepted and refused, and how many lines were not read.
-ghost use Rattle.std.specs.Prelude.{◌≡◌, ◌+◌, ◌-◌, ◌^◌, min, Some};
+ghost use Rattle.std.specs.Prelude.{◌≡◌, ◌+◌, ◌-◌, ◌^◌, ◌≤◌, min, Some};
 ghost use Rattle.script.specs.Tallies.{tally_line};
 
 use std::fmt;
@@ -12,6 +12,18 @@ pub struct Tally {
     refused: u64,
     unread: u64,
     ghost sum: { calls ≡ accepted + refused },
+}
+
+// One more in a count and in a part of it, unless the count is the largest number of 64 bits.
+fn count(whole: &mut u64, part: &mut u64)
+    requires { part.old ≤ whole.old }
+    ensures whole { whole.new ≡ min (whole.old + 1) (2 ^ 64 - 1) }
+    ensures part { part.new + whole.old ≡ part.old + whole.new }
+{
+    if *whole < u64::MAX {
+        *whole += 1;
+        *part += 1;
+    }
 }
 
 impl Tally {
@@ -34,10 +46,7 @@ impl Tally {
         ensures refused { self.new.refused ≡ self.old.refused }
         ensures unread { self.new.unread ≡ self.old.unread }
     {
-        if self.calls < u64::MAX {
-            self.calls += 1;
-            self.accepted += 1;
-        }
+        count(&mut self.calls, &mut self.accepted);
     }
 
     // Counts a call that was refused.
@@ -46,10 +55,7 @@ impl Tally {
         ensures accepted { self.new.accepted ≡ self.old.accepted }
         ensures unread { self.new.unread ≡ self.old.unread }
     {
-        if self.calls < u64::MAX {
-            self.calls += 1;
-            self.refused += 1;
-        }
+        count(&mut self.calls, &mut self.refused);
     }
 
     // Counts a line that was not read.
@@ -58,9 +64,7 @@ impl Tally {
         ensures accepted { self.new.accepted ≡ self.old.accepted }
         ensures unread { self.new.unread ≡ min (self.old.unread + 1) (2 ^ 64 - 1) }
     {
-        if self.unread < u64::MAX {
-            self.unread += 1;
-        }
+        self.unread = self.unread.saturating_add(1);
     }
 
     // How many calls were made: those that were accepted, and those that were refused.
@@ -76,10 +80,12 @@ impl fmt::Display for Tally {
     ghost output = { λ t. Some (tally_line t.calls t.accepted t.refused t.unread) };
 
     fn fmt<W: fmt::Write>(&self, f: &mut fmt::Formatter<W>) -> fmt::Result {
-        let calls = self.calls;
-        let accepted = self.accepted;
-        let refused = self.refused;
-        let unread = self.unread;
+        let Tally {
+            calls,
+            accepted,
+            refused,
+            unread,
+        } = self;
         write!(
             f,
             "{calls} calls, {accepted} accepted, {refused} refused, {unread} lines not read"

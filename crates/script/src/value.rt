@@ -1,7 +1,7 @@
 // Words of a script, read as values.
 ghost use Rattle.std.specs.Prelude.{◌≡◌, vec_items};
 ghost use Rattle.script.specs.Results.{Gives};
-ghost use Rattle.script.specs.Values.{number_of, string_of, key_of, sixteen};
+ghost use Rattle.script.specs.Values.{number_of, string_of, key_of};
 
 use crate::reason::{Reason, Unread};
 use std::alloc::Global;
@@ -16,16 +16,10 @@ pub fn number(word: &str, most: u64) -> Result<u64, Reason>
     if word.starts_with('+') {
         return Err(Reason::NotANumber);
     }
-    match word.parse::<u64>() {
-        Ok(n) => {
-            if n <= most {
-                Ok(n)
-            } else {
-                Err(Reason::NotANumber)
-            }
-        }
-        Err(_) => Err(Reason::NotANumber),
-    }
+    word.parse::<u64>()
+        .ok()
+        .filter(|n| *n <= most)
+        .ok_or(Reason::NotANumber)
 }
 
 // The bytes that a word spells, or none for -.
@@ -35,25 +29,11 @@ pub fn bytes(heap: Global, word: &str) -> Result<Vec<u8>, Unread>
     if word == "-" {
         return Ok(Vec::new(heap));
     }
-    let Some(spelled) = hexadecimal::bytes(heap, word.as_bytes())? else {
-        return Err(Unread::Because(Reason::NotHex));
-    };
+    let spelled = hexadecimal::bytes(heap, word.as_bytes())?.ok_or(Reason::NotHex)?;
     if spelled.len() > LONGEST {
         return Err(Unread::Because(Reason::TooLong));
     }
     Ok(spelled)
-}
-
-// Bytes as a key, if there are 16.
-fn key_of(spelled: &[u8]) -> Result<[u8; 16], Reason>
-    ensures { result ≡ sixteen spelled.now }
-{
-    if spelled.len() != 16 {
-        return Err(Reason::NotAKey);
-    }
-    let mut key = [0; 16];
-    key.copy_from_slice(spelled);
-    Ok(key)
 }
 
 // The key of 16 bytes that a word spells.
@@ -61,5 +41,5 @@ pub fn key(heap: Global, word: &str) -> Result<[u8; 16], Unread>
     ensures { Gives (λ k. k) (key_of word.now) result }
 {
     let spelled = bytes(heap, word)?;
-    Ok(key_of(spelled.as_slice())?)
+    <[u8; 16]>::try_from(spelled.as_slice()).map_err(|_| Unread::Because(Reason::NotAKey))
 }

@@ -4,6 +4,7 @@ use Rattle.std.specs.BTreeMap.{btree_map_len}
 use Rattle.std.specs.declared.alloc.Global.{Global}
 use Rattle.script.specs.declared.tally.Tally.{Tally}
 use Rattle.session.specs.Counts.{Zero, Accepts, Refuses, Passes}
+use Rattle.script.specs.declared.call.CipherSetting.TheVariants.{Plain}
 use Rattle.script.specs.declared.call.MaskingSetting.TheVariants.{Doubling}
 use Rattle.script.specs.declared.call.PlainSetting.TheVariants.{Identity}
 use Rattle.session.specs.declared.Session.{Session}
@@ -76,7 +77,7 @@ Tried line s t (Err (Memory none)) = Unit {0}
 
 -- before the first line: no station, nothing counted, and identity and doubling for the stations to come
 pub record NoStations (s : Stations) : Type 0 where
-  pub cipher_is : s.cipher ≡ record { plain = Identity; inverse = false }
+  pub cipher_is : s.cipher ≡ Plain Identity
   pub masking_is : s.masking ≡ Doubling
   pub members_are : btree_map_len s.members ≡ 0
 

@@ -1,10 +1,11 @@
 -- The maps of the cipher that a setting names.
-use Rattle.std.specs.Prelude.{ℕ, cond}
+use Rattle.std.specs.Prelude.{ℕ}
 use Rattle.block.specs.Maps.{same}
 use Rattle.aes.specs.Cipher.{cipher, inv_cipher}
 use Rattle.aes.specs.KeyExpansion.{round_keys as aes_keys}
 use Rattle.cipher.specs.Speck.{encrypted, decrypted, round_keys as speck_keys}
 use Rattle.script.specs.declared.call.CipherSetting.{CipherSetting}
+use Rattle.script.specs.declared.call.CipherSetting.TheVariants.{Plain, Inverse}
 use Rattle.script.specs.declared.call.PlainSetting.{PlainSetting}
 use Rattle.script.specs.declared.call.PlainSetting.TheVariants.{Identity, Aes, Speck}
 
@@ -20,7 +21,9 @@ plain_backward (Speck key) = decrypted (speck_keys key)
 
 -- swapped for the inverse
 abbrev pub forward_for : CipherSetting → ℕ → ℕ
-forward_for setting = cond setting.inverse (plain_backward setting.plain) (plain_forward setting.plain)
+forward_for (Plain plain) = plain_forward plain
+forward_for (Inverse plain) = plain_backward plain
 
 abbrev pub backward_for : CipherSetting → ℕ → ℕ
-backward_for setting = cond setting.inverse (plain_forward setting.plain) (plain_backward setting.plain)
+backward_for (Plain plain) = plain_backward plain
+backward_for (Inverse plain) = plain_forward plain

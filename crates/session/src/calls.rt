@@ -5,7 +5,7 @@ ghost use Rattle.script.specs.Lines.{meaning};
 ghost use Rattle.session.specs.Counting.{New, Obeyed, Tried, Followed, not_read_text};
 
 use crate::Session;
-use crate::replies::Reply;
+use crate::replies::{Reply, shown};
 use crate::stations::Stations;
 use script::{Line, NotReadLine, Reason, Tally, Unread};
 use std::alloc::{AllocError, Global};
@@ -60,11 +60,7 @@ impl Session {
         ensures text { IfOk result (λ text. string_bytes text ≡ not_read_text line reason) }
     {
         self.tally.pass();
-        let answer = NotReadLine {
-            line,
-            reason: reason.text(),
-        };
-        format!(in heap; "{answer}\n")
+        shown(heap, NotReadLine { line, reason })
     }
 
     // Does what the line of a number says, and gives what is printed for it.

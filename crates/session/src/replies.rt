@@ -6,7 +6,7 @@ ghost use Rattle.station.specs.declared.fault.StationFault.TheVariants.{Frame};
 ghost use Rattle.session.specs.Replies.{lined, Replies, Outputs};
 
 use frame::FrameFault;
-use script::{Answer, OutLine, Reason, Unread};
+use script::{Answer, HexText, OutLine, Reason, Unread};
 use station::StationFault;
 use std::alloc::{AllocError, AllocFailed, Global};
 use std::fmt;
@@ -64,10 +64,10 @@ pub enum Reply {
 }
 
 // A text in a line of its own.
-fn line<T: fmt::Display + Drop>(heap: Global, shown: T) -> Result<String, AllocError>
-    ensures { IfOk result (λ text. IfSome (T.output shown) (λ bytes. string_bytes text ≡ lined bytes)) }
+pub fn shown<T: fmt::Display + Drop>(heap: Global, answer: T) -> Result<String, AllocError>
+    ensures { IfOk result (λ text. IfSome (T.output answer) (λ bytes. string_bytes text ≡ lined bytes)) }
 {
-    format!(in heap; "{shown}\n")
+    format!(in heap; "{answer}\n")
 }
 
 // A text with another one behind it.
@@ -87,14 +87,14 @@ impl Reply {
         ensures { IfOk result (Replies T.output answer) }
     {
         match answer {
-            Ok(answer) => Ok(Reply::Accepted(line(heap, answer)?)),
+            Ok(answer) => Ok(Reply::Accepted(shown(heap, answer)?)),
             Err(Halt::Refused(fault)) => {
                 let answer = Answer::Refused {
                     number: fault.number(),
                     place: fault.place(),
                     layer: fault.layer(),
                 };
-                Ok(Reply::Refused(line(heap, answer)?))
+                Ok(Reply::Refused(shown(heap, answer)?))
             }
             Err(Halt::Unread(why)) => Err(why),
         }
@@ -104,8 +104,7 @@ impl Reply {
     pub fn with_output(self, heap: Global, out: &[u8]) -> Result<Reply, Unread>
         ensures { IfOk result (Outputs out.now self) }
     {
-        let bytes = script::hex_text(heap, out)?;
-        let output = line(heap, OutLine(bytes.as_str()))?;
+        let output = shown(heap, OutLine(HexText(out)))?;
         match self {
             Reply::Accepted(text) => Ok(Reply::Accepted(joined(text, output.as_str())?)),
             Reply::Refused(text) => Ok(Reply::Refused(joined(text, output.as_str())?)),

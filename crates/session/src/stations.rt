@@ -2,13 +2,14 @@
 ghost use Rattle.std.specs.Prelude.{◌≡◌, OnOk, IsSome};
 ghost use Rattle.std.specs.BTreeMap.{get_by_text};
 ghost use Rattle.suite.specs.Ciphers.{forward_of, backward_of};
-ghost use Rattle.session.specs.Settings.{forward_for, backward_for};
+ghost use Rattle.session.specs.Settings.{forward_for, backward_for, plain_forward, plain_backward};
 ghost use Rattle.session.specs.Counting.{NoStations};
 
 use crate::replies::{Halt, Reply};
+use frame::FrameParts;
 use mode::Pair;
 use script::{
-    Answer, Call, CipherSetting, MaskingSetting, OrDash, PartsLine, PlainSetting, Reason,
+    Answer, Call, CipherSetting, HexText, MaskingSetting, OrDash, PartsLine, PlainSetting, Reason,
     StateLine, Unread,
 };
 use station::{Opened, Station, Ticket};
@@ -59,20 +60,26 @@ pub struct Stations {
     members: BTreeMap<String, Member>,
 }
 
-// The cipher that a setting names.
+// The cipher that a setting names. From can't say it, nor the next one: both types are other crates'.
 fn chosen(setting: CipherSetting) -> AnyCipher
     ensures forward { forward_of result ≡ forward_for setting }
     ensures backward { backward_of result ≡ backward_for setting }
 {
-    let cipher = match setting.plain {
+    match setting {
+        CipherSetting::Plain(plain) => named(plain),
+        CipherSetting::Inverse(plain) => named(plain).inverse(),
+    }
+}
+
+// The cipher that a name and its key stand for.
+fn named(plain: PlainSetting) -> AnyCipher
+    ensures forward { forward_of result ≡ plain_forward plain }
+    ensures backward { backward_of result ≡ plain_backward plain }
+{
+    match plain {
         PlainSetting::Identity => AnyCipher::identity(),
         PlainSetting::Aes(key) => AnyCipher::aes(key),
         PlainSetting::Speck(key) => AnyCipher::speck(key),
-    };
-    if setting.inverse {
-        cipher.inverse()
-    } else {
-        cipher
     }
 }
 
@@ -85,23 +92,21 @@ fn masking(setting: MaskingSetting) -> AnyMasking {
 }
 
 // The parts of a frame.
-fn parts(heap: Global, frame: &[u8]) -> Result<Reply, Unread> {
-    let parts = match frame::parts(frame) {
-        Ok(parts) => parts,
-        Err(fault) => return Reply::new(heap, Err::<Answer, Halt>(Halt::from(fault))),
-    };
-    let clear = script::hex_text(heap, parts.clear.bytes)?;
-    let sealed = script::hex_text(heap, parts.sealed.bytes)?;
-    let tag = script::hex_text(heap, parts.tag.bytes)?;
-    let line = PartsLine {
-        clear_at: parts.clear.at,
-        clear: clear.as_str(),
-        sealed_at: parts.sealed.at,
-        sealed: sealed.as_str(),
-        tag_at: parts.tag.at,
-        tag: tag.as_str(),
-    };
-    Reply::new(heap, Ok::<PartsLine<'_>, Halt>(line))
+fn parts(frame: &[u8]) -> Result<PartsLine<'_>, Halt> {
+    let FrameParts {
+        clear,
+        sealed,
+        tag,
+        ..
+    } = frame::parts(frame)?;
+    Ok(PartsLine {
+        clear_at: clear.at,
+        clear: HexText(clear.bytes),
+        sealed_at: sealed.at,
+        sealed: HexText(sealed.bytes),
+        tag_at: tag.at,
+        tag: HexText(tag.bytes),
+    })
 }
 
 impl Stations {
@@ -110,10 +115,7 @@ impl Stations {
         ensures { NoStations result }
     {
         Stations {
-            cipher: CipherSetting {
-                plain: PlainSetting::Identity,
-                inverse: false,
-            },
+            cipher: CipherSetting::Plain(PlainSetting::Identity),
             masking: MaskingSetting::Doubling,
             members: BTreeMap::new(heap),
         }
@@ -248,7 +250,7 @@ impl Stations {
                 let answer = self.open(name, frame.as_slice(), out.as_mut_slice());
                 Reply::new(heap, answer)?.with_output(heap, out.as_slice())
             }
-            Call::Parts { frame } => parts(heap, frame.as_slice()),
+            Call::Parts { frame } => Reply::new(heap, parts(frame.as_slice())),
             Call::State { name } => Reply::new(heap, self.state(name)),
         }
     }
