@@ -1,7 +1,6 @@
 -- The header tag: its loop, its last block and its cases.
-use Rattle.std.proofs.Common.{◌≡◌, ℕ, suc, ◌+◌, ◌-◌, ◌*◌, Bool, true, false, eqb, List, [], ◌∷◌, length, take, drop, sym, refl, ap, ◌∙◌, ap₂, ⊎_elim, add-one, arith, length-drop}
+use Rattle.std.proofs.Common.{◌≡◌, ℕ, suc, ◌+◌, ◌-◌, ◌*◌, Bool, true, false, eqb, List, [], ◌∷◌, length, drop, sym, refl, ap, ◌∙◌, ap₂, ⊎_elim, add-one, arith, length-drop}
 use lib.Bits.{bit_xor}
-use Rattle.std.proofs.lemmas.List.{take_rest}
 use Rattle.std.proofs.lemmas.Bool.{cases_eq, eq-eqb, ne_eqb}
 use Rattle.block.specs.Bytes.{block_at}
 use Rattle.block.specs.Cut.{before, last_bits, last_of, fill_with, sum_of}
@@ -54,14 +53,13 @@ unfolding header_tag_of
 no_header w [] h = refl
 no_header w (b ∷ bs) h = absurd (omega arith)
 
-pub header_ends : (w : Maps) (header : List ℕ) (n sum block close r : ℕ) → (length header ≡ 0 → ⊥) → n ≡ before (length header)
-    → sum ≡ sum_of (header_block w) n header → block ≡ fill_with 0x80 (take (length header - 16 * n) (drop (16 * n) header))
-    → close ≡ closing w n (eqb (length (take (length header - 16 * n) (drop (16 * n) header))) 16)
+pub header_ends : (w : Maps) (header piece : List ℕ) (n sum block close r : ℕ) → (length header ≡ 0 → ⊥) → n ≡ before (length header)
+    → piece ≡ drop (16 * n) header → sum ≡ sum_of (header_block w) n header → block ≡ fill_with 0x80 piece → close ≡ closing w n (eqb (length piece) 16)
     → r ≡ w.forward (bit_xor (bit_xor sum block) close) → r ≡ header_tag_of w header
 unfolding some_header_tag
-header_ends w header n sum block close r h e s b c v =
-    let last : take (length header - 16 * n) (drop (16 * n) header) ≡ last_of header = take_rest header (16 * n) ∙ ap (λ (m : ℕ). drop (16 * m) header) e in
-    let full : eqb (length (take (length header - 16 * n) (drop (16 * n) header))) 16 ≡ eqb (last_bits (length header)) 128 =
+header_ends w header piece n sum block close r h e p s b c v =
+    let last : piece ≡ last_of header = p ∙ ap (λ (m : ℕ). drop (16 * m) header) e in
+    let full : eqb (length piece) 16 ≡ eqb (last_bits (length header)) 128 =
     ap (λ (v : List ℕ). eqb (length v) 16) last
     ∙ ap (λ (m : ℕ). eqb m 16) (length-drop (16 * before (length header)) header)
     ∙ full_is (length header - 16 * before (length header)) in

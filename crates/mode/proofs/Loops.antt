@@ -1,46 +1,31 @@
 -- Loops that write along a slice: their steps and ends.
-use Rattle.std.proofs.Common.{◌≡◌, ℕ, zero, suc, ◌+◌, ◌*◌, ◌<◌, List, [], ◌∷◌, ◌++◌, length, get_or, take, drop, set, sym, refl, ap, ◌∙◌, ap₂, append_assoc, add-one, arith, length-take}
+use Rattle.std.proofs.Common.{◌≡◌, ℕ, zero, suc, ◌+◌, ◌*◌, ◌<◌, ◌≤◌, List, [], ◌∷◌, ◌++◌, get_or, take, drop, sym, refl, ap, ◌∙◌, ap₂, append_assoc, add-one, arith}
 use lib.Bits.{bit_xor}
-use lib.Seq.{set_at}
-use Rattle.std.proofs.lemmas.List.{take_all, drop_all, append-nil, drop_more, take_at, drop_at, drop-drop}
-use Rattle.block.specs.Bytes.{bytes_of, block_at}
-use Rattle.block.specs.Bytes.{xor_bytes}
+use Rattle.std.specs.Simd.{first_chunks}
+use Rattle.std.proofs.lemmas.List.{take_at, drop_at, drop-drop, take-take}
+use Rattle.block.specs.Bytes.{bytes_of, number_of, block_at}
 use Rattle.block.specs.Cut.{through, sum_of}
 use Rattle.masking.specs.Steps.{times}
-use Rattle.block.specs.BytesLaws.{length-xor}
-use Rattle.block.specs.CutLaws.{length-through}
+use Rattle.block.specs.CutLaws.{length-through, block-before}
 use Rattle.mode.specs.Sealing.{Maps, masked}
 
--- one more byte, written over the next place
-pub put_more : (i v : ℕ) (p o₀ o : List ℕ) → o ≡ p ++ drop i o₀ → length p ≡ i → i < length o₀ → set o i v ≡ (p ++ v ∷ []) ++ drop (i + 1) o₀
-put_more i v p o₀ o e l h =
-    ap (λ (w : List ℕ). set w i v) (e ∙ ap (λ (w : List ℕ). p ++ w) (drop_more o₀ i 0 h))
-    ∙ set_at p (get_or o₀ i 0) (drop (i + 1) o₀) v i l
-    ∙ sym (append_assoc p (v ∷ []) (drop (i + 1) o₀))
+-- block i of the blocks that a string is cut into
+pub chunk_is : (n i : ℕ) (bs d : List ℕ) → i < n → get_or (first_chunks 16 n bs) i d ≡ take 16 (drop (16 * i) bs)
+chunk_is zero i bs d h = absurd (omega arith)
+chunk_is (suc n) zero bs d h = refl
+chunk_is (suc n) (suc i) bs d h =
+    let next : 16 + 16 * i ≡ 16 * suc i = omega arith in
+    chunk_is n i (drop 16 bs) d (omega arith) ∙ ap (take 16) (drop-drop (16 * i) 16 bs ∙ ap (λ (k : ℕ). drop k bs) next)
 
-xor_next : (xs ys : List ℕ) (i : ℕ) → i < length xs → i < length ys
-    → xor_bytes (take (suc i) xs) ys ≡ xor_bytes (take i xs) ys ++ bit_xor (get_or xs i 0) (get_or ys i 0) ∷ []
-unfolding xor_bytes
-xor_next [] ys i h k = absurd (omega arith)
-xor_next (x ∷ xs) [] i h k = absurd (omega arith)
-xor_next (x ∷ xs) (y ∷ ys) zero h k = refl
-xor_next (x ∷ xs) (y ∷ ys) (suc i) h k = ap (λ (v : List ℕ). bit_xor x y ∷ v) (xor_next xs ys i (omega arith) (omega arith))
-
-pub xor_none : (xs ys o : List ℕ) → o ≡ xor_bytes (take 0 xs) ys ++ drop 0 o
-unfolding xor_bytes
-xor_none xs ys o = refl
-
-pub xor_again : (i : ℕ) (xs ys o₀ o : List ℕ) → i < length xs → i < length ys → length o₀ ≡ length xs → o ≡ xor_bytes (take i xs) ys ++ drop i o₀
-    → set o i (bit_xor (get_or xs i 0) (get_or ys i 0)) ≡ xor_bytes (take (i + 1) xs) ys ++ drop (i + 1) o₀
-xor_again i xs ys o₀ o h k l e =
-    let t = length-take i xs in
-    let n : length (xor_bytes (take i xs) ys) ≡ i = length-xor (take i xs) ys (omega arith) ∙ omega arith in
-    put_more i (bit_xor (get_or xs i 0) (get_or ys i 0)) (xor_bytes (take i xs) ys) o₀ o e n (omega arith)
-    ∙ ap (λ (v : List ℕ). v ++ drop (i + 1) o₀) (sym (ap (λ (m : ℕ). xor_bytes (take m xs) ys) (add-one i) ∙ xor_next xs ys i h k))
-
-pub xor_ends : (i : ℕ) (xs ys o₀ o : List ℕ) → i ≡ length xs → length o₀ ≡ length xs → o ≡ xor_bytes (take i xs) ys ++ drop i o₀ → o ≡ xor_bytes xs ys
-xor_ends i xs ys o₀ o q l e =
-    e ∙ ap₂ (λ (u v : List ℕ). xor_bytes u ys ++ v) (take_all i xs (omega arith)) (drop_all i o₀ (omega arith)) ∙ append-nil (xor_bytes xs ys)
+-- a chunk of the blocks before the last is a block of the string
+pub chunk_at : (n k i : ℕ) (bs front : List ℕ) (chunks : List (List ℕ)) → front ≡ take (16 * n) bs → chunks ≡ first_chunks 16 k front → i < k → i < n
+    → block_at 0 (get_or chunks i []) ≡ block_at (16 * i) bs
+chunk_at n k i bs front chunks f c h l =
+    let same : take (16 * n) front ≡ take (16 * n) bs = ap (take (16 * n)) f ∙ take-take (16 * n) (16 * n) bs (omega arith) in
+    ap (λ (v : List (List ℕ)). block_at 0 (get_or v i [])) c
+    ∙ ap (block_at 0) (chunk_is k i front [] h)
+    ∙ ap number_of (take-take 16 16 (drop (16 * i) front) (omega arith))
+    ∙ block-before n i front bs same l
 
 -- one more block
 

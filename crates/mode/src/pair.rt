@@ -1,13 +1,12 @@
 // A cipher and a masking together, and what they seal and open.
-ghost use Rattle.std.specs.Prelude.{◌≡◌, ℕ, ◌+◌, ◌*◌, ◌≤◌, List, length, replicate, bit_xor};
-ghost use Rattle.block.specs.Bytes.{bytes_of, block_at, stored_at, xor_bytes};
-ghost use Rattle.block.specs.Cut.{before, fill_with};
+ghost use Rattle.std.specs.Prelude.{◌≡◌, ℕ, List, length, replicate, bit_xor};
+ghost use Rattle.block.specs.Cut.{before, last_of, zero_filled};
 ghost use Rattle.masking.specs.Steps.{times};
-ghost use Rattle.mode.specs.Sealing.{delta_zero_of, delta_one_of, kappa as kappa_of, closing, header_tag_of, sealing, sealed_bytes, message_tag_of, Seals};
-ghost use Rattle.mode.specs.Pairs.{maps_of};
-ghost use Rattle.mode.specs.Gives.{SealGives, Behind, BehindGives, OpenGives};
+ghost use Rattle.mode.specs.Sealing.{delta_zero_of, delta_one_of, kappa as kappa_of, closing, header_tag_of, Seals};
+ghost use Rattle.mode.specs.Pairs.{maps};
+ghost use Rattle.mode.specs.Gives.{SealGives, BehindGives, OpenGives};
 ghost use Rattle.mode.specs.Stands.{Stands};
-ghost use Rattle.mode.specs.Body.{BlocksDone, BodyDone, Decided};
+ghost use Rattle.mode.specs.Body.{Computes, BlocksDone, BodyDone};
 
 use crate::fault::ModeFault;
 use crate::value::Mode;
@@ -25,22 +24,12 @@ pub struct Pair<C, M> {
 // The fixed string, whose block the cipher gives first.
 const FIXED: Block = 1;
 
-// Writes a last piece with the pad added.
-fn xor_piece(piece: &[u8], pad: Block, out: &mut [u8])
-    requires { (length piece.now ≤ 16) × (length out.old ≡ length piece.now) }
-    ensures { out.new ≡ xor_bytes piece.now (bytes_of 16 pad) }
-{
-    let bytes = pad.to_be_bytes();
-    for i in 0..piece.len() {
-        out[i] = piece[i] ^ bytes[i];
-    }
-}
-
-// Zeroes every byte.
-fn wipe(bytes: &mut [u8])
-    ensures { (n : ℕ) → length bytes.old ≡ n → bytes.new ≡ replicate n 0 }
-{
-    bytes.fill(0);
+// What comes of the blocks before the last: their sums, as read and as written, and the mask of the last of them.
+#[derive(Clone, Copy)]
+struct Sums {
+    read: Block,
+    written: Block,
+    mask: Block,
 }
 
 // What comes of the body of a message: the sums of its blocks before the last as read and as written, and the last block's mask and pad.
@@ -52,237 +41,164 @@ struct Body {
     pad: Block,
 }
 
-impl<C: Cipher, M: Masking> Pair<C, M> {
-    // A pair of the two. What the modes promise stands for every cipher and every masking that keep their laws.
-    pub fn new(cipher: C, masking: M) -> Pair<C, M>
-        ensures held { (result.cipher ≡ cipher) × (result.masking ≡ masking) }
-        ensures stands { Stands (maps_of C.forward C.backward M.onward M.inward result) }
-    {
-        Pair { cipher, masking }
-    }
+// A pair with the two blocks that its calls begin from: the cipher's block of the fixed string, and one step from it.
+#[derive(Drop)]
+struct Keyed<'a, C: Cipher, M: Masking> {
+    pair: &'a Pair<C, M>,
+    delta_zero: Block,
+    delta_one: Block,
+    ghost zero: { delta_zero ≡ delta_zero_of (maps C.Cipher M.Masking pair.now) },
+    ghost one: { delta_one ≡ delta_one_of (maps C.Cipher M.Masking pair.now) },
+}
 
-    // A block through the mode's map.
-    fn sealing(&self, mode: Mode, block: Block) -> Block
-        ensures { result ≡ sealing (maps_of C.forward C.backward M.onward M.inward self.now) mode block }
+impl<'a, C: Cipher, M: Masking> Keyed<'a, C, M> {
+    #[tactic(auto, unfolding(crate::specs::Sealing::delta_zero_of, crate::specs::Sealing::delta_one_of))]
+    fn of(pair: &'a Pair<C, M>) -> Keyed<'a, C, M>
+        ensures { result.pair.now ≡ pair.now }
     {
-        match mode {
-            Mode::Forward => self.cipher.encrypt(block),
-            Mode::Dual => self.cipher.decrypt(block),
+        let delta_zero = pair.cipher.encrypt(FIXED);
+        let delta_one = pair.masking.step(delta_zero);
+        Keyed {
+            pair,
+            delta_zero,
+            delta_one,
         }
     }
 
-    // The cipher's block of the fixed string.
-    fn delta_zero(&self) -> Block
-        ensures { result ≡ delta_zero_of (maps_of C.forward C.backward M.onward M.inward self.now) }
+    // What is added to the last block of a header, after n blocks with the mask of the last of them.
+    fn closing(&self, n: usize, full: bool, kappa: Block, mask: Block) -> Block
+        requires kappa { kappa ≡ kappa_of (maps C.Cipher M.Masking self.now.pair.now) }
+        requires mask { mask ≡ times (M.onward self.now.pair.now.masking) n kappa }
+        ensures { result ≡ closing (maps C.Cipher M.Masking self.now.pair.now) n full }
     {
-        self.cipher.encrypt(FIXED)
-    }
-
-    // One step from it.
-    fn delta_one(&self, delta_zero: Block) -> Block
-        requires { delta_zero ≡ delta_zero_of (maps_of C.forward C.backward M.onward M.inward self.now) }
-        ensures { result ≡ delta_one_of (maps_of C.forward C.backward M.onward M.inward self.now) }
-    {
-        self.masking.step(delta_zero)
-    }
-
-    // Ciphers the block at a place between two masks; answers it as read and as written.
-    fn cipher_block(
-        &self,
-        mode: Mode,
-        mask: Block,
-        at: usize,
-        input: &[u8],
-        out: &mut [u8],
-    ) -> (Block, Block)
-        ensures read { result.0 ≡ block_at at input.now }
-        ensures written { result.1 ≡ bit_xor (sealing (maps_of C.forward C.backward M.onward M.inward self.now) mode (bit_xor result.0 mask)) mask }
-        ensures stored { out.new ≡ stored_at at result.1 out.old }
-    {
-        let x = load(input, at);
-        let y = self.sealing(mode, x ^ mask) ^ mask;
-        store(out, at, y);
-        (x, y)
-    }
-
-    // Ciphers the blocks before the last; answers their sums, as read and as written, and the mask of the last of them.
-    fn cipher_blocks(
-        &self,
-        mode: Mode,
-        gamma: Block,
-        input: &[u8],
-        out: &mut [u8],
-    ) -> (Block, Block, Block)
-        requires { length out.old ≡ length input.now }
-        ensures { BlocksDone (maps_of C.forward C.backward M.onward M.inward self.now) mode gamma (before (length input.now)) input.now out.old out.new result.0 result.1 result.2 }
-    {
-        let n = Cut::of(input.len()).before;
-        let mut mask = gamma;
-        let mut read = 0;
-        let mut written = 0;
-        for i in 0..n {
-            mask = self.masking.step(mask);
-            let (x, y) = self.cipher_block(mode, mask, 16 * i, input, out);
-            read ^= x;
-            written ^= y;
+        let masking = &self.pair.masking;
+        match (n, full) {
+            (0, false) => masking.back(kappa),
+            (0, true) => masking.back(masking.back(kappa)),
+            (_, false) => masking.step(mask),
+            (_, true) => 0,
         }
-        (read, written, mask)
     }
 
-    // The pad of a last block, from the number of its bits.
-    fn pad(&self, cut: Cut, mask: Block) -> Block
-        ensures { result ≡ C.forward self.now.cipher (bit_xor cut.bits mask) }
+    // The tag of a header.
+    fn header_tag(&self, header: &[u8]) -> Block
+        ensures { result ≡ header_tag_of (maps C.Cipher M.Masking self.now.pair.now) header.now }
     {
-        self.cipher.encrypt(cut.bits as Block ^ mask)
+        if header.is_empty() {
+            return 0;
+        }
+        let Pair { cipher, masking } = self.pair;
+        let kappa = cipher.encrypt(self.delta_zero);
+        let cut = Cut::of(header.len());
+        let (blocks, piece) = header.split_at(cut.at);
+        let mut mask = kappa;
+        let mut sum = 0;
+        for block in blocks.as_chunks::<16>().0 {
+            mask = masking.step(mask);
+            sum ^= cipher.encrypt(load(block, 0) ^ mask);
+        }
+        let closing = self.closing(cut.before, piece.len() == 16, kappa, mask);
+        cipher.encrypt(sum ^ fill(0x80, piece) ^ closing)
+    }
+
+    // Ciphers the blocks before the last, each between two masks.
+    fn cipher_blocks<F: Fn(Block) -> Block>(
+        &self,
+        map: F,
+        first: Block,
+        input: &[u8],
+        out: &mut [u8],
+    ) -> Sums
+        requires callable { F.IsAlwaysCallable map }
+        requires as_long { length out.old ≡ length input.now }
+        ensures { (e : ℕ → ℕ) → Computes (F.post map) e → BlocksDone (maps C.Cipher M.Masking self.now.pair.now) e first (before (length input.now)) input.now out.old out.new result }
+    {
+        let mut sums = Sums {
+            read: 0,
+            written: 0,
+            mask: first,
+        };
+        // By index: nothing is known of what a loop over chunks_exact_mut leaves in the output.
+        for i in 0..Cut::of(input.len()).before {
+            let mask = self.pair.masking.step(sums.mask);
+            let x = load(input, 16 * i);
+            let y = map(x ^ mask) ^ mask;
+            store(out, 16 * i, y);
+            sums = Sums {
+                read: sums.read ^ x,
+                written: sums.written ^ y,
+                mask,
+            };
+        }
+        sums
     }
 
     // Ciphers a whole string of bytes: the blocks before the last by the mode's map, the last piece with the pad.
-    fn cipher_body(
-        &self,
-        mode: Mode,
-        delta_one: Block,
-        nonce: Block,
-        input: &[u8],
-        out: &mut [u8],
-    ) -> Body
-        requires { (delta_one ≡ delta_one_of (maps_of C.forward C.backward M.onward M.inward self.now)) × (length out.old ≡ length input.now) }
-        ensures { BodyDone (maps_of C.forward C.backward M.onward M.inward self.now) mode nonce input.now out.new result.read result.written result.mask result.pad }
+    fn cipher_body(&self, mode: Mode, nonce: Block, input: &[u8], out: &mut [u8]) -> Body
+        requires { length out.old ≡ length input.now }
+        ensures { BodyDone (maps C.Cipher M.Masking self.now.pair.now) mode nonce input.now out.new result }
     {
-        let gamma = self.cipher.encrypt(nonce ^ delta_one);
-        let (read, written, last) = self.cipher_blocks(mode, gamma, input, out);
+        let Pair { cipher, masking } = self.pair;
+        let gamma = cipher.encrypt(nonce ^ self.delta_one);
+        let sums = match mode {
+            Mode::Forward => self.cipher_blocks(|x| cipher.encrypt(x), gamma, input, out),
+            Mode::Dual => self.cipher_blocks(|x| cipher.decrypt(x), gamma, input, out),
+        };
         let cut = Cut::of(input.len());
-        let at = cut.at;
-        let mask = self.masking.step(last);
-        let pad = self.pad(cut, mask);
-        xor_piece(&input[at..], pad, &mut out[at..]);
+        let mask = masking.step(sums.mask);
+        let pad = cipher.encrypt(cut.bits as Block ^ mask);
+        store(out, cut.at, fill(0, &input[cut.at..]) ^ pad);
         Body {
-            read,
-            written,
+            read: sums.read,
+            written: sums.written,
             mask,
             pad,
         }
     }
 
-    // The message tag, from the sum of the message's blocks before the last and the last sealed piece.
-    fn tag_from(&self, delta_one: Block, mask: Block, pad: Block, sum: Block, piece: &[u8]) -> Block
-        requires { length piece.now ≤ 16 }
-        ensures { result ≡ C.forward self.now.cipher (bit_xor (bit_xor (bit_xor (bit_xor sum (fill_with 0 piece.now)) (M.onward self.now.masking mask)) delta_one) pad) }
+    // The message tag, from what the body left, the sum of the message's blocks before the last and the sealed bytes.
+    fn message_tag(&self, body: Body, sum: Block, sealed: &[u8]) -> Block
+        ensures { result ≡ C.forward self.now.pair.now.cipher (bit_xor (bit_xor (bit_xor (bit_xor sum (zero_filled (last_of sealed.now))) (M.onward self.now.pair.now.masking body.mask)) self.now.delta_one) body.pad) }
     {
-        let block = fill(0, piece);
-        self.cipher
-            .encrypt(sum ^ block ^ self.masking.step(mask) ^ delta_one ^ pad)
+        let Pair { cipher, masking } = self.pair;
+        let last = fill(0, &sealed[Cut::of(sealed.len()).at..]);
+        cipher.encrypt(sum ^ last ^ masking.step(body.mask) ^ self.delta_one ^ body.pad)
     }
 
-    // What is added to the last block of a header, after n blocks with the mask of the last of them.
-    fn closing(&self, n: usize, full: bool, kappa: Block, mask: Block) -> Block
-        requires { (kappa ≡ kappa_of (maps_of C.forward C.backward M.onward M.inward self.now)) × (mask ≡ times (M.onward self.now.masking) n kappa) }
-        ensures { result ≡ closing (maps_of C.forward C.backward M.onward M.inward self.now) n full }
+    // Seals a message under its header, and answers the tag.
+    fn seal(&self, mode: Mode, nonce: Block, header: &[u8], message: &[u8], out: &mut [u8]) -> Block
+        requires { length out.old ≡ length message.now }
+        ensures { Seals (maps C.Cipher M.Masking self.now.pair.now) mode nonce header.now message.now out.new result }
     {
-        if n == 0 {
-            let once = self.masking.back(kappa);
-            if full { self.masking.back(once) } else { once }
-        } else if full {
-            0
-        } else {
-            self.masking.step(mask)
-        }
+        let body = self.cipher_body(mode, nonce, message, out);
+        self.message_tag(body, body.read, out) ^ self.header_tag(header)
     }
 
-    // Where the masks of a header begin.
-    fn kappa(&self, delta_zero: Block) -> Block
-        ensures { result ≡ C.forward self.now.cipher delta_zero }
+    // Writes the only message that can seal to these bytes, and answers the only tag that it can have.
+    fn open(&self, mode: Mode, nonce: Block, header: &[u8], sealed: &[u8], out: &mut [u8]) -> Block
+        requires { length out.old ≡ length sealed.now }
+        ensures seals { Seals (maps C.Cipher M.Masking self.now.pair.now) mode nonce header.now out.new sealed.now result }
+        ensures only { (message : List ℕ) (tag : ℕ) → Seals (maps C.Cipher M.Masking self.now.pair.now) mode nonce header.now message sealed.now tag → tag ≡ result }
     {
-        self.cipher.encrypt(delta_zero)
+        let body = self.cipher_body(mode.other(), nonce, sealed, out);
+        self.message_tag(body, body.written, sealed) ^ self.header_tag(header)
     }
+}
 
-    // The tag of a header, where the cipher's block of the fixed string is known.
-    fn header_tag_from(&self, delta_zero: Block, header: &[u8]) -> Block
-        requires { delta_zero ≡ delta_zero_of (maps_of C.forward C.backward M.onward M.inward self.now) }
-        ensures { result ≡ header_tag_of (maps_of C.forward C.backward M.onward M.inward self.now) header.now }
+impl<C: Cipher, M: Masking> Pair<C, M> {
+    // A pair of the two. What the modes promise stands for every cipher and every masking that keep their laws.
+    pub fn new(cipher: C, masking: M) -> Pair<C, M>
+        ensures held { (result.cipher ≡ cipher) × (result.masking ≡ masking) }
+        ensures stands { Stands (maps C.Cipher M.Masking result) }
     {
-        if header.len() == 0 {
-            return 0;
-        }
-        let kappa = self.kappa(delta_zero);
-        let n = Cut::of(header.len()).before;
-        let mut mask = kappa;
-        let mut sum = 0;
-        for i in 0..n {
-            mask = self.masking.step(mask);
-            let x = load(header, 16 * i);
-            sum ^= self.cipher.encrypt(x ^ mask);
-        }
-        let piece = &header[16 * n..];
-        let block = fill(0x80, piece);
-        let closing = self.closing(n, piece.len() == 16, kappa, mask);
-        self.cipher.encrypt(sum ^ block ^ closing)
+        Pair { cipher, masking }
     }
 
     // The tag of a header.
     pub fn header_tag(&self, header: &[u8]) -> Block
-        ensures { result ≡ header_tag_of (maps_of C.forward C.backward M.onward M.inward self.now) header.now }
+        ensures { result ≡ header_tag_of (maps C.Cipher M.Masking self.now) header.now }
     {
-        self.header_tag_from(self.delta_zero(), header)
-    }
-
-    // Writes the sealed bytes of a message, and answers what its body left.
-    fn seal_bytes(
-        &self,
-        mode: Mode,
-        delta_one: Block,
-        nonce: Block,
-        message: &[u8],
-        out: &mut [u8],
-    ) -> Body
-        requires { (delta_one ≡ delta_one_of (maps_of C.forward C.backward M.onward M.inward self.now)) × (length out.old ≡ length message.now) }
-        ensures done { BodyDone (maps_of C.forward C.backward M.onward M.inward self.now) mode nonce message.now out.new result.read result.written result.mask result.pad }
-        ensures bytes { out.new ≡ sealed_bytes (maps_of C.forward C.backward M.onward M.inward self.now) mode nonce message.now }
-    {
-        self.cipher_body(mode, delta_one, nonce, message, out)
-    }
-
-    // The message tag, from what the body left and the sealed bytes.
-    fn message_tag(&self, delta_one: Block, body: Body, sealed: &[u8]) -> Block
-        requires { delta_one ≡ delta_one_of (maps_of C.forward C.backward M.onward M.inward self.now) }
-        ensures { (mode : Mode) (nonce : ℕ) (message : List ℕ) → BodyDone (maps_of C.forward C.backward M.onward M.inward self.now) mode nonce message sealed.now body.read body.written body.mask body.pad → result ≡ message_tag_of (maps_of C.forward C.backward M.onward M.inward self.now) nonce message }
-    {
-        let at = Cut::of(sealed.len()).at;
-        self.tag_from(delta_one, body.mask, body.pad, body.read, &sealed[at..])
-    }
-
-    // Seals a message without its header, and answers the message tag.
-    fn seal_body(
-        &self,
-        mode: Mode,
-        delta_one: Block,
-        nonce: Block,
-        message: &[u8],
-        out: &mut [u8],
-    ) -> Block
-        requires { (delta_one ≡ delta_one_of (maps_of C.forward C.backward M.onward M.inward self.now)) × (length out.old ≡ length message.now) }
-        ensures bytes { out.new ≡ sealed_bytes (maps_of C.forward C.backward M.onward M.inward self.now) mode nonce message.now }
-        ensures tag { result ≡ message_tag_of (maps_of C.forward C.backward M.onward M.inward self.now) nonce message.now }
-    {
-        let body = self.seal_bytes(mode, delta_one, nonce, message, out);
-        self.message_tag(delta_one, body, out)
-    }
-
-    // Seals a message under its header, and answers the tag.
-    fn seal_whole(
-        &self,
-        mode: Mode,
-        nonce: Block,
-        header: &[u8],
-        message: &[u8],
-        out: &mut [u8],
-    ) -> Block
-        requires { length out.old ≡ length message.now }
-        ensures { Seals (maps_of C.forward C.backward M.onward M.inward self.now) mode nonce header.now message.now out.new result }
-    {
-        let delta_zero = self.delta_zero();
-        let delta_one = self.delta_one(delta_zero);
-        let tag = self.seal_body(mode, delta_one, nonce, message, out);
-        tag ^ self.header_tag_from(delta_zero, header)
+        Keyed::of(self).header_tag(header)
     }
 
     // Seals a message into an output buffer of its length, and answers the tag.
@@ -294,31 +210,12 @@ impl<C: Cipher, M: Masking> Pair<C, M> {
         message: &[u8],
         out: &mut [u8],
     ) -> Result<Block, ModeFault>
-        ensures { SealGives (maps_of C.forward C.backward M.onward M.inward self.now) mode nonce header.now message.now out.old out.new result }
+        ensures { SealGives (maps C.Cipher M.Masking self.now) mode nonce header.now message.now out.old out.new result }
     {
         if out.len() != message.len() {
             return Err(ModeFault::OutputLength);
         }
-        Ok(self.seal_whole(mode, nonce, header, message, out))
-    }
-
-    // Seals a message behind a header in one buffer, which they fill; answers the tag.
-    fn behind_whole(
-        &self,
-        mode: Mode,
-        nonce: Block,
-        header_len: usize,
-        message: &[u8],
-        buf: &mut [u8],
-    ) -> Block
-        requires { length buf.old ≡ header_len + length message.now }
-        ensures { Behind (maps_of C.forward C.backward M.onward M.inward self.now) mode nonce header_len message.now buf.old buf.new result }
-    {
-        let delta_zero = self.delta_zero();
-        let delta_one = self.delta_one(delta_zero);
-        let header_tag = self.header_tag_from(delta_zero, &buf[0..header_len]);
-        let tag = self.seal_body(mode, delta_one, nonce, message, &mut buf[header_len..]);
-        tag ^ header_tag
+        Ok(Keyed::of(self).seal(mode, nonce, header, message, out))
     }
 
     // Seals a message into the bytes behind its header, which is the first bytes of the buffer; answers the tag.
@@ -330,34 +227,12 @@ impl<C: Cipher, M: Masking> Pair<C, M> {
         message: &[u8],
         buf: &mut [u8],
     ) -> Result<Block, ModeFault>
-        ensures { BehindGives (maps_of C.forward C.backward M.onward M.inward self.now) mode nonce header_len message.now buf.old buf.new result }
+        ensures { BehindGives (maps C.Cipher M.Masking self.now) mode nonce header_len message.now buf.old buf.new result }
     {
-        if header_len > buf.len() || buf.len() - header_len != message.len() {
+        let Some((header, sealed)) = buf.split_at_mut_checked(header_len) else {
             return Err(ModeFault::OutputLength);
-        }
-        Ok(self.behind_whole(mode, nonce, header_len, message, buf))
-    }
-
-    // Writes the only message that can seal to these bytes, and says whether it does, with this tag.
-    fn open_whole(
-        &self,
-        mode: Mode,
-        nonce: Block,
-        header: &[u8],
-        sealed: &[u8],
-        tag: Block,
-        out: &mut [u8],
-    ) -> bool
-        requires { length out.old ≡ length sealed.now }
-        ensures { Decided (maps_of C.forward C.backward M.onward M.inward self.now) mode nonce header.now sealed.now tag out.new result }
-    {
-        let delta_zero = self.delta_zero();
-        let delta_one = self.delta_one(delta_zero);
-        let body = self.cipher_body(mode.other(), delta_one, nonce, sealed, out);
-        let at = Cut::of(sealed.len()).at;
-        let own = self.tag_from(delta_one, body.mask, body.pad, body.written, &sealed[at..]);
-        let whole = own ^ self.header_tag_from(delta_zero, header);
-        whole == tag
+        };
+        self.seal(mode, nonce, header, message, sealed)
     }
 
     // Opens sealed bytes into an output buffer of their length, if a message seals to them and to the tag; else the buffer is zeroed.
@@ -370,15 +245,15 @@ impl<C: Cipher, M: Masking> Pair<C, M> {
         tag: Block,
         out: &mut [u8],
     ) -> Result<(), ModeFault>
-        ensures { OpenGives (maps_of C.forward C.backward M.onward M.inward self.now) mode nonce header.now sealed.now tag out.old out.new result }
+        ensures { OpenGives (maps C.Cipher M.Masking self.now) mode nonce header.now sealed.now tag out.old out.new result }
     {
         if out.len() != sealed.len() {
             return Err(ModeFault::OutputLength);
         }
-        if self.open_whole(mode, nonce, header, sealed, tag, out) {
+        if Keyed::of(self).open(mode, nonce, header, sealed, out) == tag {
             return Ok(());
         }
-        wipe(out);
+        out.fill(0);
         Err(ModeFault::NotSealed)
     }
 }
