@@ -9,7 +9,7 @@ use Rattle.mode.specs.declared.value.Mode.TheVariants.{Forward, Dual}
 use Rattle.mode.specs.declared.pair.Body.{Body}
 use Rattle.mode.specs.Values.{other_of}
 use Rattle.mode.specs.Sealing.{Maps, Lawful, delta_one_of, header_tag_of, gamma, sealing, opening, masked, pad_of, body, sealed_bytes, opened_bytes, tag_from_header, message_tag_of, tag_of, Seals}
-use Rattle.mode.specs.SealingLaws.{length-body, bytes_body, last_body, sealed_opened, seals_opened, tag_opened}
+use Rattle.mode.specs.SealingLaws.{bytes_body, last_body, sealed_opened, seals_opened, tag_opened}
 use Rattle.mode.specs.Body.{BodyDone}
 use Rattle.mode.proofs.Loops.{times_again}
 
