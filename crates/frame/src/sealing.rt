@@ -1,6 +1,6 @@
 // Sealing into a frame and opening out of one.
 ghost use Rattle.std.specs.Prelude.{◌≡◌, ℕ, ◌+◌, ◌/◌, ◌%◌, ◌^◌, ◌≤◌, List, [], ◌∷◌, length};
-ghost use Rattle.mode.specs.Pairs.{maps_of};
+ghost use Rattle.mode.specs.Pairs.{maps};
 ghost use Rattle.mode.specs.Values.{mode_value};
 ghost use Rattle.frame.specs.Form.{head_of};
 ghost use Rattle.frame.specs.Gives.{FrameSeals, SealsFrame, PartsOpen, FrameOpens};
@@ -53,7 +53,7 @@ impl Content<'_> {
         out: &mut [u8],
     ) -> Result<usize, FrameFault>
         requires { 48 + length self.now.clear.now + length self.now.message.now ≤ length out.old }
-        ensures { (m : ℕ) → m ≡ mode_value self.now.mode → FrameSeals (maps_of C.forward C.backward M.onward M.inward pair.now) self.now.sender self.now.number m self.now.clear.now self.now.message.now out.old out.new result }
+        ensures { (m : ℕ) → m ≡ mode_value self.now.mode → FrameSeals (maps C.Cipher M.Masking pair.now) self.now.sender self.now.number m self.now.clear.now self.now.message.now out.old out.new result }
     {
         let sealed_at = 32 + self.clear.len();
         let tag_at = sealed_at + self.message.len();
@@ -77,8 +77,8 @@ pub fn seal<C: Cipher, M: Masking>(
     message: &[u8],
     out: &mut [u8],
 ) -> Result<usize, FrameFault>
-    ensures gives { FrameSeals (maps_of C.forward C.backward M.onward M.inward pair.now) sender number mode clear.now message.now out.old out.new result }
-    ensures seals { SealsFrame (maps_of C.forward C.backward M.onward M.inward pair.now) sender number clear.now message.now out.new result }
+    ensures gives { FrameSeals (maps C.Cipher M.Masking pair.now) sender number mode clear.now message.now out.old out.new result }
+    ensures seals { SealsFrame (maps C.Cipher M.Masking pair.now) sender number clear.now message.now out.new result }
 {
     let mode = Mode::try_from(mode)?;
     if clear.len() > LONGEST {
@@ -107,7 +107,7 @@ impl FrameParts<'_> {
         pair: &Pair<C, M>,
         out: &mut [u8],
     ) -> Result<usize, FrameFault>
-        ensures { PartsOpen (maps_of C.forward C.backward M.onward M.inward pair.now) self.entry out.old out.new result }
+        ensures { PartsOpen (maps C.Cipher M.Masking pair.now) self.entry out.old out.new result }
     {
         let len = self.sealed.bytes.len();
         if out.len() < len {
@@ -127,7 +127,7 @@ pub fn open<C: Cipher, M: Masking>(
     frame: &[u8],
     out: &mut [u8],
 ) -> Result<usize, FrameFault>
-    ensures { FrameOpens (maps_of C.forward C.backward M.onward M.inward pair.now) frame.now out.old out.new result }
+    ensures { FrameOpens (maps C.Cipher M.Masking pair.now) frame.now out.old out.new result }
 {
     parts(frame)?.open(pair, out)
 }

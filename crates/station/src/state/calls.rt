@@ -1,6 +1,6 @@
 // The making of a station and the four calls on it.
 ghost use Rattle.std.specs.Prelude.{◌≡◌, true, is_some};
-ghost use Rattle.mode.specs.Pairs.{maps_of};
+ghost use Rattle.mode.specs.Pairs.{maps};
 ghost use Rattle.station.specs.Events.{Reserve, GiveUp, Seal, Open};
 ghost use Rattle.station.specs.Ends.{is_sealed};
 ghost use Rattle.station.specs.Steps.{Step, Founds, Spends, Settles, FitGives};
@@ -30,7 +30,7 @@ impl<C: Cipher, M: Masking> Station<C, M> {
         C: Drop,
         M: Drop,
         ensures founds { Founds pair own peer start floor result }
-        ensures lasts { Lasts (maps_of C.forward C.backward M.onward M.inward) pair peer floor result }
+        ensures lasts { Lasts (maps C.Cipher M.Masking) pair peer floor result }
     {
         if own == peer {
             return Err(StationFault::SameId);
@@ -55,7 +55,7 @@ impl<C: Cipher, M: Masking> Station<C, M> {
 
     // Hands out the next number on a ticket. A number that is still out is written off.
     pub fn reserve(&mut self) -> Result<Ticket, StationFault>
-        ensures { Step (maps_of C.forward C.backward M.onward M.inward) self.old (Reserve result) self.new }
+        ensures { Step (maps C.Cipher M.Masking) self.old (Reserve result) self.new }
     {
         if self.next > LAST {
             return Err(StationFault::Exhausted);
@@ -98,7 +98,7 @@ impl<C: Cipher, M: Masking> Station<C, M> {
 
     // Writes off the number of a ticket.
     pub fn give_up(&mut self, ticket: Ticket) -> Result<(), StationFault>
-        ensures { Step (maps_of C.forward C.backward M.onward M.inward) self.old (GiveUp ticket result) self.new }
+        ensures { Step (maps C.Cipher M.Masking) self.old (GiveUp ticket result) self.new }
     {
         self.spend(ticket)?;
         self.settle(End::WrittenOff);
@@ -114,7 +114,7 @@ impl<C: Cipher, M: Masking> Station<C, M> {
         message: &[u8],
         out: &mut [u8],
     ) -> Result<usize, StationFault>
-        ensures { Step (maps_of C.forward C.backward M.onward M.inward) self.old (Seal ticket mode clear.now message.now out.old out.new result) self.new }
+        ensures { Step (maps C.Cipher M.Masking) self.old (Seal ticket mode clear.now message.now out.old out.new result) self.new }
     {
         let number = self.spend(ticket)?;
         let answer = frame::seal(&self.pair, self.own, number, mode, clear, message, out);
@@ -143,7 +143,7 @@ impl<C: Cipher, M: Masking> Station<C, M> {
 
     // Opens a frame of the peer, with a number above the highest, into the output's start.
     pub fn open(&mut self, frame: &[u8], out: &mut [u8]) -> Result<Opened, StationFault>
-        ensures { Step (maps_of C.forward C.backward M.onward M.inward) self.old (Open frame.now out.old out.new result) self.new }
+        ensures { Step (maps C.Cipher M.Masking) self.old (Open frame.now out.old out.new result) self.new }
     {
         let parts = self.fit(frame)?;
         let length = parts.open(&self.pair, out)?;

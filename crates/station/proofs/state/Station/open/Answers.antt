@@ -1,27 +1,27 @@
 use Rattle.std.proofs.Common.{refl}
 use Rattle.std.proofs.lemmas.Result.{err_from_is_err_and}
-use Rattle.mode.specs.Pairs.{maps_of}
+use Rattle.mode.specs.Pairs.{maps}
 use Rattle.station.proofs.Opens.{refused, accepted}
 use Rattle.station.proofs.state.Station.open.Goals as goal
 
 pub returns-in_err-length : goal.returns-in_err-length
 returns-in_err-length g c =
     let p = err_from_is_err_and c.from_residual-in_err-length.result c.from_residual-in_err-length.ensures.1 in
-    let maps = maps_of g.C.Cipher.forward g.C.Cipher.backward g.M.Masking.onward g.M.Masking.inward c.args.self.now.pair in
+    let w = maps g.C.Cipher g.M.Masking c.args.self.now.pair in
     let o = c.in_ok-parts.ensures.0 in
     let fit = c.in_ok-parts.ensures.1 in
     rw (p.1, p.2)
-    (refused maps c.args.self.now c.args.frame.now c.args.out.now c.open.new.out c.in_ok-parts.parts o fit c.in_err-length.field-0.0 c.in_err-length.ensures, refl)
+    (refused w c.args.self.now c.args.frame.now c.args.out.now c.open.new.out c.in_ok-parts.parts o fit c.in_err-length.field-0.0 c.in_err-length.ensures, refl)
 
 pub returns : goal.returns
 returns g c =
-    let maps = maps_of g.C.Cipher.forward g.C.Cipher.backward g.M.Masking.onward g.M.Masking.inward c.args.self.now.pair in
+    let w = maps g.C.Cipher g.M.Masking c.args.self.now.pair in
     let o = c.in_ok-parts.ensures.0 in
     let fit = c.in_ok-parts.ensures.1 in
     record {
       sender_is = fit.1;
       above = fit.2;
-      opened = accepted maps c.args.self.now c.args.frame.now c.args.out.now c.open.new.out c.in_ok-parts.parts o fit c.in_ok-length.length c.in_ok-length.ensures;
+      opened = accepted w c.args.self.now c.args.frame.now c.args.out.now c.open.new.out c.in_ok-parts.parts o fit c.in_ok-length.length c.in_ok-length.ensures;
       number_is = o.number_is;
       out_is = refl;
       next_is = refl;
