@@ -1,6 +1,9 @@
 // The ciphers and maskings by their numbers, and a choice of both with its key.
 ghost use Rattle.std.specs.Prelude.{◌≡◌, length, IfOk};
+ghost use Rattle.capi.specs.declared.choices.NotMade.TheVariants.{UnknownMode as NoMode};
 ghost use Rattle.capi.specs.Choices.{CipherIs, Chooses, CipherOf, MaskingOf};
+
+use mode::UnknownMode;
 
 // Why a call is not made: nothing is written then.
 #[derive(Clone, Copy, PartialEq, Eq, Debug)]
@@ -17,6 +20,14 @@ pub(crate) enum NotMade {
     TagLength = 5,
     // The mode is neither 1 nor 2.
     UnknownMode = 6,
+}
+
+impl From<UnknownMode> for NotMade {
+    ghost from_gives = { λ _ why. why ≡ NoMode };
+
+    fn from(_: UnknownMode) -> NotMade {
+        NotMade::UnknownMode
+    }
 }
 
 // A cipher by its number.

@@ -5,6 +5,7 @@ ghost use Rattle.capi.specs.Codes.{refusal, not_made_code, fault_code, code_of};
 
 use crate::choices::NotMade;
 use frame::FrameFault;
+use layer::Refusal;
 use mode::ModeFault;
 
 // Why a call has no length to answer.
@@ -46,10 +47,10 @@ impl From<FrameFault> for Fault {
 const TOP_BIT: u64 = 0x8000_0000_0000_0000;
 
 // The code of a refusal, by its number and its place.
-fn refusal(number: u8, place: u8) -> u64
-    ensures { result ≡ refusal number place }
+fn refusal<R: Refusal>(refused: &R) -> u64
+    ensures { result ≡ refusal (R.number_of refused.now) (R.place_of refused.now) }
 {
-    TOP_BIT + 256 * place as u64 + number as u64
+    TOP_BIT + 256 * refused.place() as u64 + refused.number() as u64
 }
 
 // The code of a call that is not made has why in its third byte.
@@ -67,8 +68,8 @@ impl From<Fault> for u64 {
     fn from(fault: Fault) -> u64 {
         match fault {
             Fault::Uncalled(why) => why.into(),
-            Fault::InMode(refused) => refusal(refused.number(), refused.place()),
-            Fault::InFrame(refused) => refusal(refused.number(), refused.place()),
+            Fault::InMode(refused) => refusal(&refused),
+            Fault::InFrame(refused) => refusal(&refused),
         }
     }
 }

@@ -31,7 +31,7 @@ fn asked(mode: u8, nonce: &[u8], tag: &[u8]) -> Result<Mode, NotMade>
     if tag.len() != 16 {
         return Err(NotMade::TagLength);
     }
-    Mode::of(mode).ok_or(NotMade::UnknownMode)
+    Ok(Mode::try_from(mode)?)
 }
 
 // What is sealed.

@@ -117,7 +117,7 @@ impl<C: Cipher + Drop> Talk<'_, C> {
     // The hub reserves a number, notes it and seals the message; the frame, if nothing was refused.
     fn send(&mut self, mode: Mode, message: &[u8]) -> anyhow::Result<Option<Vec<u8>>> {
         let rt = self.rt;
-        let mode = mode.value();
+        let mode = u8::from(mode);
         let clear = (self.task.offsets.len() as u64).to_be_bytes();
         let mut frame = vec![in rt.alloc(); 0u8; message.len().min(MOST) + BEFORE + 16]?;
         let Some(ticket) = self.reserve("")? else {

@@ -1,11 +1,12 @@
 // What is printed for a call, and why a call may have no answer.
 ghost use Rattle.std.specs.Prelude.{◌≡◌, ◌++◌, IfOk, IfSome, string_bytes};
-ghost use Rattle.session.specs.declared.replies.Halt.TheVariants.{Unread as NoAnswer, Refused as Refusal};
+ghost use Rattle.session.specs.declared.replies.Halt.TheVariants.{Unread as NoAnswer, Refused as Refuses};
 ghost use Rattle.script.specs.declared.reason.Unread.TheVariants.{Because, Memory};
 ghost use Rattle.station.specs.declared.fault.StationFault.TheVariants.{Frame};
 ghost use Rattle.session.specs.Replies.{lined, Replies, Outputs};
 
 use frame::FrameFault;
+use layer::Refusal;
 use script::{Answer, HexText, OutLine, Reason, Unread};
 use station::StationFault;
 use std::alloc::{AllocError, AllocFailed, Global};
@@ -41,7 +42,7 @@ impl From<AllocFailed<String>> for Halt {
 }
 
 impl From<StationFault> for Halt {
-    ghost from_gives = { λ fault r. r ≡ Refusal fault };
+    ghost from_gives = { λ fault r. r ≡ Refuses fault };
 
     fn from(fault: StationFault) -> Halt {
         Halt::Refused(fault)
@@ -49,7 +50,7 @@ impl From<StationFault> for Halt {
 }
 
 impl From<FrameFault> for Halt {
-    ghost from_gives = { λ fault r. r ≡ Refusal (Frame fault) };
+    ghost from_gives = { λ fault r. r ≡ Refuses (Frame fault) };
 
     fn from(fault: FrameFault) -> Halt {
         Halt::Refused(StationFault::Frame(fault))
