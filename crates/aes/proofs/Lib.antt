@@ -1,4 +1,5 @@
 mod Example
 mod Keys
 mod Rounds
+mod Rows
 mod Words

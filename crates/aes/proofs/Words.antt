@@ -1,5 +1,5 @@
 -- The round keys, one made from the other, are the words of the key expansion.
-use Rattle.std.proofs.Common.{◌≡◌, ℕ, zero, suc, ◌+◌, ◌-◌, ◌*◌, ◌/◌, ◌%◌, ◌^◌, ◌<◌, ◌≤◌, Bool, true, false, cond, eqb, ◌≢◌, List, [], ◌∷◌, length, get_or, set, sym, refl, ap, ◌∙◌, subst, ap₂, ⊎_elim, zero-add, add-one, arith, length-set}
+use Rattle.std.proofs.Common.{◌≡◌, ℕ, zero, suc, ◌+◌, ◌-◌, ◌*◌, ◌/◌, ◌%◌, ◌^◌, ◌<◌, Bool, true, false, cond, eqb, ◌≢◌, List, [], ◌∷◌, length, get_or, set, sym, refl, ap, ◌∙◌, subst, ap₂, ⊎_elim, zero-add, add-one, arith, length-set}
 use lib.Bits.{bit_xor, xor_lt, xor_zero_r}
 use Rattle.std.proofs.lemmas.List.{get_or-set_same, get_or-set_other}
 use Rattle.std.proofs.lemmas.Bool.{cases_lt}
@@ -14,8 +14,8 @@ use Rattle.aes.specs.Steps.{sum_row_of}
 use Rattle.aes.specs.KeyExpansion.{rot_word, sub_word, round_constant, next_word_of, words_from, key_word, expanded_key, columns_are, by_four, round_keys, word_at}
 use Rattle.aes.specs.CipherLaws.{AllKeyBytes}
 use Rattle.aes.specs.RoundKeys.{cells_of, next_row_of, next_key_of}
-use Rattle.aes.specs.declared.round.Round.{Round}
-use Rattle.aes.proofs.Keys.{cells_at, cells_set, cells_length}
+use Rattle.aes.specs.declared.state.State.{State as RoundKey}
+use Rattle.aes.proofs.Keys.{cells_set, cells_length}
 
 -- round key n, where s is the first
 unfoldable pub key_at : State → ℕ → State
@@ -123,47 +123,42 @@ keys_bytes s q zero m k i j = omega arith
 keys_bytes s q (suc n) m zero i j = square_cells (key_square s q m) i j
 keys_bytes s q (suc n) m (suc k) i j = keys_bytes s q n (suc m) k i j
 
--- the code's list of round keys, filled up to number i
+-- the code's list of round keys, of which the first i are filled, and the next one
 
-pub record Expanding (start : State) (i c : ℕ) (ks : List Round) : Type 0 where
+pub record Expanding (start : State) (i c : ℕ) (next : State) (ks : List RoundKey) : Type 0 where
   pub constant : c ≡ power 2 i
+  pub reached : next ≡ key_at start i
   pub long : length ks ≡ 11
-  pub keys : (j : ℕ) → j ≤ i → get_or (cells_of ks) j [] ≡ key_at start j
+  pub keys : (j : ℕ) → j < i → get_or (cells_of ks) j [] ≡ key_at start j
 
-pub expanding_none : (start : State) (ks : List Round) → length ks ≡ 11 → get_or (cells_of ks) 0 [] ≡ start → Expanding start 0 1 ks
+pub expanding_none : (start : State) (ks : List RoundKey) → length ks ≡ 11 → Expanding start 0 1 start ks
 unfolding key_at power
-expanding_none start ks l e =
-    record {
-      constant = refl;
-      long = l;
-      keys = λ j h. let z : j ≡ 0 = omega arith in subst (λ (n : ℕ). get_or (cells_of ks) n [] ≡ key_at start n) (sym z) e;
-    }
+expanding_none start ks l = record { constant = refl; reached = refl; long = l; keys = λ j h. absurd (omega arith) }
 
-pub expanding_more : (start : State) (i c c' : ℕ) (ks : List Round) (r : Round) → i < 10 → Expanding start i c ks
-    → r.cells ≡ next_key_of c (get_or ks i (record { cells = [] })).cells → c' ≡ times_x_of c → Expanding start (i + 1) c' (set ks (i + 1) r)
+pub expanding_more : (start after : State) (i c c' : ℕ) (ks : List RoundKey) (r : RoundKey) → i < 11 → after ≡ next_key_of c r.cells → c' ≡ times_x_of c
+    → Expanding start i c r.cells ks → Expanding start (i + 1) c' after (set ks i r)
 unfolding key_at power
-expanding_more start i c c' ks r h e made doubled =
+expanding_more start after i c c' ks r h made doubled e =
     let fits : c < 2 ^ 8 = subst (λ (n : ℕ). n < 2 ^ 8) (sym e.constant) (power_fits i) in
     let l = cells_length ks in
     let long = e.long in
-    let n : i + 1 < length (cells_of ks) = omega arith in
-    let P : ℕ → Type 0 = λ j. get_or (cells_of (set ks (i + 1) r)) j [] ≡ key_at start j in
-    let put = cells_set ks (i + 1) r in
-    let new : r.cells ≡ key_at start (i + 1) =
-    made ∙ ap₂ next_key_of e.constant (cells_at ks i ∙ e.keys i (omega arith)) ∙ sym (ap (key_at start) (add-one i)) in
+    let n : i < length (cells_of ks) = omega arith in
+    let P : ℕ → Type 0 = λ j. get_or (cells_of (set ks i r)) j [] ≡ key_at start j in
+    let put = cells_set ks i r in
     record {
       constant = doubled ∙ times_two c fits ∙ ap (λ (m : ℕ). product m 2) e.constant ∙ sym (ap (power 2) (add-one i));
-      long = length-set ks (i + 1) r ∙ long;
+      reached = made ∙ ap₂ next_key_of e.constant e.reached ∙ sym (ap (key_at start) (add-one i));
+      long = length-set ks i r ∙ long;
       keys =
           λ j b.
           ⊎_elim
-          (λ (lt : j < i + 1).
-          let ne : j ≢ i + 1 = omega arith in
-          ap (λ (v : List State). get_or v j []) put ∙ get_or-set_other (cells_of ks) (i + 1) j r.cells [] ne ∙ e.keys j (omega arith))
+          (λ (lt : j < i).
+          let ne : j ≢ i = omega arith in
+          ap (λ (v : List State). get_or v j []) put ∙ get_or-set_other (cells_of ks) i j r.cells [] ne ∙ e.keys j lt)
           (λ ge.
-          let z : j ≡ i + 1 = omega arith in
-          subst P (sym z) (ap (λ (v : List State). get_or v (i + 1) []) put ∙ get_or-set_same (cells_of ks) (i + 1) r.cells [] n ∙ new))
-          (cases_lt j (i + 1));
+          let z : j ≡ i = omega arith in
+          subst P (sym z) (ap (λ (v : List State). get_or v i []) put ∙ get_or-set_same (cells_of ks) i r.cells [] n ∙ e.reached))
+          (cases_lt j i);
     }
 
 listed : (s : State) (n m : ℕ) (xs : List State) → length xs ≡ n → ((j : ℕ) → j < n → get_or xs j [] ≡ key_at s (m + j)) → xs ≡ keys_from s m n
@@ -176,8 +171,8 @@ listed s (suc n) m (x ∷ xs) l h =
     ap₂ (λ (k : State) (ks : List State). k ∷ ks) (h 0 (omega arith) ∙ ap (key_at s) z)
     (listed s n (suc m) xs (omega arith) (λ j b. let y : m + suc j ≡ suc m + j = omega arith in h (suc j) (omega arith) ∙ ap (key_at s) y))
 
-pub expanding_all : (key : List ℕ) (i c : ℕ) (ks : List Round) → i ≡ 10 → Expanding (rows_of key) i c ks → cells_of ks ≡ round_keys key
-expanding_all key i c ks z e =
+pub expanding_all : (key : List ℕ) (i c : ℕ) (next : State) (ks : List RoundKey) → i ≡ 11 → Expanding (rows_of key) i c next ks → cells_of ks ≡ round_keys key
+expanding_all key i c next ks z e =
     let l = cells_length ks in
     let long = e.long in
     listed (rows_of key) 11 0 (cells_of ks) (omega arith) (λ j b. e.keys j (omega arith) ∙ ap (key_at (rows_of key)) (sym (zero-add j))) ∙ sym (keys_are key)

@@ -2,10 +2,10 @@
 use Rattle.std.specs.Prelude.{ℕ, List, [], ◌∷◌, bit_xor, slice_index, slice_index_or}
 use Rattle.gf256.specs.Substitution.{substituted}
 use Rattle.aes.specs.State.{State, cell}
-use Rattle.aes.specs.declared.round.Round.{Round}
+use Rattle.aes.specs.declared.state.State.{State as RoundKey}
 
 -- the states of a list of round keys
-abbrev pub cells_of : List Round → List State
+abbrev pub cells_of : List RoundKey → List State
 cells_of [] = []
 cells_of (k ∷ ks) = k.cells ∷ cells_of ks
 

@@ -1,5 +1,5 @@
 -- The state of the cipher: four rows of four bytes. Byte i of a block lies in row i mod 4 and column i / 4.
-use Rattle.std.specs.Prelude.{ℕ, ◌+◌, List, [], ◌∷◌, slice_index, slice_index_or}
+use Rattle.std.specs.Prelude.{◌≡◌, ℕ, ◌+◌, ◌^◌, ◌<◌, List, [], ◌∷◌, slice_index, slice_index_or}
 use Rattle.block.specs.Bytes.{bytes_of, number_of}
 
 abbrev pub State : Type 0
@@ -15,6 +15,11 @@ row_of bs r = slice_index bs r ∷ slice_index bs (r + 4) ∷ slice_index bs (r 
 
 abbrev pub rows_of : List ℕ → State
 rows_of bs = row_of bs 0 ∷ row_of bs 1 ∷ row_of bs 2 ∷ row_of bs 3 ∷ []
+
+-- s is the rows of sixteen bytes
+pub record IsRowsOf (bs : List ℕ) (s : State) : Type 0 where
+  pub rows : s ≡ rows_of bs
+  pub bytes : (i : ℕ) → slice_index bs i < 2 ^ 8
 
 -- a column, and what comes after it
 abbrev pub column_then : State → ℕ → List ℕ → List ℕ

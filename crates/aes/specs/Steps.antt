@@ -1,5 +1,5 @@
 -- The four steps of a round on a state, each with its way back.
-use Rattle.std.specs.Prelude.{ℕ, ◌+◌, ◌%◌, List, [], ◌∷◌, bit_xor, slice_index, slice_index_or}
+use Rattle.std.specs.Prelude.{◌≡◌, ℕ, ◌+◌, ◌%◌, ◌^◌, ◌<◌, List, [], ◌∷◌, bit_xor, slice_index, slice_index_or}
 use Rattle.gf256.specs.Column.{coefficient, mixing, mixing_back}
 use Rattle.gf256.specs.Substitution.{substituted, restored}
 use Rattle.aes.specs.State.{State, cell}
@@ -7,6 +7,13 @@ use Rattle.aes.specs.State.{State, cell}
 -- each of four bytes through f
 abbrev pub over_row : (ℕ → ℕ) → List ℕ → List ℕ
 over_row f w = f (slice_index w 0) ∷ f (slice_index w 1) ∷ f (slice_index w 2) ∷ f (slice_index w 3) ∷ []
+
+-- what P allows of a byte, or of four, is what f makes of it
+abbrev pub Computes : (ℕ → ℕ → Type 0) → (ℕ → ℕ) → Type 0
+Computes P f = (x y : ℕ) → x < 2 ^ 8 → P x y → y ≡ f x
+
+abbrev pub ComputesOfFour : (ℕ → ℕ → ℕ → ℕ → ℕ → Type 0) → (ℕ → ℕ → ℕ → ℕ → ℕ) → Type 0
+ComputesOfFour P f = (a b c d y : ℕ) → a < 2 ^ 8 → b < 2 ^ 8 → c < 2 ^ 8 → d < 2 ^ 8 → P a b c d y → y ≡ f a b c d
 
 -- each of four rows through f
 abbrev pub over_rows : (List ℕ → List ℕ) → State → State
@@ -18,6 +25,10 @@ sub_bytes_of = over_rows (over_row substituted)
 
 abbrev pub inv_sub_bytes_of : State → State
 inv_sub_bytes_of = over_rows (over_row restored)
+
+-- a row moved left by n places
+abbrev pub row_turned : List ℕ → ℕ → List ℕ
+row_turned w n = slice_index w n ∷ slice_index w ((n + 1) % 4) ∷ slice_index w ((n + 2) % 4) ∷ slice_index w ((n + 3) % 4) ∷ []
 
 -- row r from column c on, counted round
 abbrev pub row_from : State → ℕ → ℕ → List ℕ

@@ -5,8 +5,7 @@ ghost use Rattle.aes.specs.CipherLaws.{AllKeyBytes};
 ghost use Rattle.aes.specs.KeyExpansion.{expanded_key, round_keys, word_at};
 ghost use Rattle.aes.specs.RoundKeys.{cells_of, next_row_of, next_key_of};
 
-use crate::round::Round;
-use crate::steps::rows_of;
+use crate::state::State;
 use gf256::{substitute, times_x};
 
 // A row of the next round key: each byte adds the new one on its left, and the first one t.
@@ -20,32 +19,32 @@ fn next_row(w: [u8; 4], t: u8) -> [u8; 4]
 }
 
 // The next round key. Its first column adds the last one, moved up by one place and substituted, and the round constant.
-fn next_key(key: Round, constant: u8) -> Round
+fn next_key(key: State, constant: u8) -> State
     ensures { result.cells ≡ next_key_of constant key.cells }
 {
-    let s = key.cells;
-    let cells = [
-        next_row(s[0], substitute(s[1][3]) ^ constant),
-        next_row(s[1], substitute(s[2][3])),
-        next_row(s[2], substitute(s[3][3])),
-        next_row(s[3], substitute(s[0][3])),
-    ];
-    Round { cells }
+    let [p, q, u, v] = key.cells;
+    State {
+        cells: [
+            next_row(p, substitute(q[3]) ^ constant),
+            next_row(q, substitute(u[3])),
+            next_row(u, substitute(v[3])),
+            next_row(v, substitute(p[3])),
+        ],
+    }
 }
 
 // The eleven round keys. The round constants are the powers of x in the field.
-pub(crate) fn expand(key: [u8; 16]) -> [Round; 11]
+pub(crate) fn expand(key: [u8; 16]) -> [State; 11]
     ensures keys { cells_of result ≡ round_keys key }
     ensures words { (i : ℕ) → i < 44 → word_at (cells_of result) i ≡ number_of (slice_index_or (expanded_key key) i []) }
     ensures bytes { AllKeyBytes (cells_of result) }
 {
-    let first = Round {
-        cells: rows_of(key),
-    };
-    let mut keys = [first; 11];
+    let mut next = State::from(key);
+    let mut keys = [next; 11];
     let mut constant = 1;
-    for i in 0..10 {
-        keys[i + 1] = next_key(keys[i], constant);
+    for round_key in &mut keys {
+        *round_key = next;
+        next = next_key(next, constant);
         constant = times_x(constant);
     }
     keys

@@ -11,29 +11,16 @@ ghost use Rattle.aes.specs.State.{column_then};
 
 use block::Block;
 use cipher::Cipher;
-use round::Round;
-use steps::{
-    add_round_key, block_of, inv_mix_columns, inv_shift_rows, inv_sub_bytes, mix_columns,
-    shift_rows, state_of, sub_bytes,
-};
+use state::State;
 
 mod expansion;
-mod round;
-mod steps;
+mod state;
 
 // The cipher under one key, which is expanded once, when the value is made.
 #[derive(Clone, Copy)]
 pub struct Aes128 {
-    keys: [Round; 11],
+    keys: [State; 11],
     ghost fit: { AllKeyBytes (cells_of keys) },
-}
-
-// A column of a state as one number, its first byte the most significant.
-fn column(s: [[u8; 4]; 4], c: usize) -> u32
-    requires { c < 4 }
-    ensures { result ≡ number_of (column_then s c []) }
-{
-    u32::from_be_bytes([s[0][c], s[1][c], s[2][c], s[3][c]])
 }
 
 impl Aes128 {
@@ -50,64 +37,36 @@ impl Aes128 {
     pub fn word(&self, i: usize) -> Option<u32>
         ensures { MatchOption result (44 ≤ i) (λ w. (i < 44) × (w ≡ word_at (cells_of self.now.keys) i)) }
     {
-        if i < 44 {
-            Some(column(self.round_key(i / 4), i % 4))
-        } else {
-            None
+        let key = self.keys.get(i / 4)?;
+        Some(key.column(i % 4))
+    }
+
+    // A state through all rounds. The last one mixes no columns.
+    fn enciphered(&self, start: State) -> State
+        ensures { result.cells ≡ enciphered (cells_of self.now.keys) start.cells }
+    {
+        let keys = &self.keys[..];
+        let mut s = start.add_round_key(keys[0]);
+        for key in &keys[1..10] {
+            s = s.sub_bytes().shift_rows().mix_columns().add_round_key(*key);
         }
-    }
-
-    // Round key n.
-    fn round_key(&self, n: usize) -> [[u8; 4]; 4]
-        requires { n < 11 }
-        ensures { result ≡ slice_index_or (cells_of self.now.keys) n [] }
-    {
-        self.keys[n].cells
-    }
-
-    // A round, counted from 0: the last one, number 9, mixes no columns.
-    fn round(&self, i: usize, s: [[u8; 4]; 4]) -> [[u8; 4]; 4]
-        requires { i < 10 }
-        ensures inner { i < 9 → result ≡ round (slice_index_or (cells_of self.now.keys) (i + 1) []) s }
-        ensures last { 9 ≤ i → result ≡ last_round (slice_index_or (cells_of self.now.keys) (i + 1) []) s }
-    {
-        let t = shift_rows(sub_bytes(s));
-        let t = if i < 9 { mix_columns(t) } else { t };
-        add_round_key(t, self.round_key(i + 1))
-    }
-
-    // The way back through a round: the last one, number 0, mixes no columns.
-    fn inv_round(&self, i: usize, s: [[u8; 4]; 4]) -> [[u8; 4]; 4]
-        requires { i < 10 }
-        ensures inner { 0 < i → result ≡ inv_round_of (slice_index_or (cells_of self.now.keys) i []) s }
-        ensures last { i ≡ 0 → result ≡ inv_last_round (slice_index_or (cells_of self.now.keys) i []) s }
-    {
-        let t = add_round_key(inv_sub_bytes(inv_shift_rows(s)), self.round_key(i));
-        if i > 0 { inv_mix_columns(t) } else { t }
-    }
-
-    // A state through all rounds.
-    fn enciphered(&self, start: [[u8; 4]; 4]) -> [[u8; 4]; 4]
-        ensures { result ≡ enciphered (cells_of self.now.keys) start }
-    {
-        let mut s = add_round_key(start, self.round_key(0));
-        for i in 0..10 {
-            let next = self.round(i, s);
-            s = next;
-        }
-        s
+        s.sub_bytes().shift_rows().add_round_key(keys[10])
     }
 
     // A state back through all rounds.
-    fn deciphered(&self, end: [[u8; 4]; 4]) -> [[u8; 4]; 4]
-        ensures { result ≡ deciphered (cells_of self.now.keys) end }
+    fn deciphered(&self, end: State) -> State
+        ensures { result.cells ≡ deciphered (cells_of self.now.keys) end.cells }
     {
-        let mut s = add_round_key(end, self.round_key(10));
-        for i in (0..10).rev() {
-            let next = self.inv_round(i, s);
-            s = next;
+        let keys = &self.keys[..];
+        let mut s = end.add_round_key(keys[10]);
+        for key in keys[1..10].iter().rev() {
+            s = s
+                .inv_shift_rows()
+                .inv_sub_bytes()
+                .add_round_key(*key)
+                .inv_mix_columns();
         }
-        s
+        s.inv_shift_rows().inv_sub_bytes().add_round_key(keys[0])
     }
 }
 
@@ -119,10 +78,10 @@ impl Cipher for Aes128 {
     ghost laws = { λ c. cipher_undo (cells_of c.keys) c.fit };
 
     fn encrypt(&self, block: Block) -> Block {
-        block_of(self.enciphered(state_of(block)))
+        self.enciphered(block.into()).into()
     }
 
     fn decrypt(&self, block: Block) -> Block {
-        block_of(self.deciphered(state_of(block)))
+        self.deciphered(block.into()).into()
     }
 }

@@ -1,1 +1,1 @@
-mod Counted
+mod Widths

@@ -1,11 +1,12 @@
 // Maskings of a block, by what they mean: a step and its way back.
 #![tactic(auto)]
 
-ghost use Rattle.std.specs.Prelude.{◌≡◌, ℕ, [], ◌∷◌, unsigned_abs};
-ghost use Rattle.block.specs.Maps.{IsBlock, Undo, same, undo_same};
+ghost use Rattle.std.specs.Prelude.{◌≡◌, ℕ, ◌+◌, ◌^◌, ◌<◌, [], ◌∷◌, slice_index};
+ghost use Rattle.block.specs.Double.{double, halve};
+ghost use Rattle.block.specs.Maps.{Undo, same, undo_same};
 ghost use Rattle.masking.specs.Doubling.{doubled, undoubled};
 ghost use Rattle.masking.specs.DoublingLaws.{doubling_undo};
-ghost use Rattle.masking.specs.Steps.{Γ, StepsAdd};
+ghost use Rattle.masking.specs.Steps.{times, Computes, Γ, StepsAdd};
 ghost use Rattle.masking.specs.Tower.{word3, word2, word1, word0, of_words, alpha, alpha_back, tower_step, tower_back};
 ghost use Rattle.masking.specs.TowerLaws.{tower_undo};
 
@@ -46,19 +47,24 @@ impl Masking for Idle {
     }
 }
 
-// A block shifted left by one bit, with 0x87 added if a one was shifted out.
-fn double(block: Block) -> Block
-    ensures { result ≡ doubled block }
+// An element of the field of 2^(TOP + 1) elements, shifted left by one bit, with POLY added if a one was shifted out.
+fn double<const TOP: u32, const POLY: u32>(x: u128) -> u128
+    requires top { TOP < 128 }
+    requires fits { x < 2 ^ (TOP + 1) }
+    ensures { result ≡ double TOP POLY x }
 {
-    (block << 1) ^ (0x87 * (block >> 127))
+    ((x % (1 << TOP)) << 1) ^ (u128::from(POLY) * (x >> TOP))
 }
 
-// The block that was doubled.
-fn halve(block: Block) -> Block
-    ensures { result ≡ undoubled block }
+// The element that was doubled.
+fn halve<const TOP: u32, const POLY: u32>(x: u128) -> u128
+    requires top { TOP < 128 }
+    requires fits { x < 2 ^ (TOP + 1) }
+    requires poly { POLY < 2 ^ (TOP + 1) }
+    ensures { result ≡ halve TOP POLY x }
 {
-    let low = block % 2;
-    ((block ^ (0x87 * low)) >> 1) + (low << 127)
+    let low = x % 2;
+    ((x ^ (u128::from(POLY) * low)) >> 1) + (low << TOP)
 }
 
 // Doubling in the field of 2^128 elements.
@@ -73,87 +79,87 @@ impl Masking for Doubling {
     ghost laws = { λ _. doubling_undo };
 
     fn step(&self, block: Block) -> Block {
-        double(block)
+        double::<127, 0x87>(block)
     }
 
     fn back(&self, block: Block) -> Block {
-        halve(block)
+        halve::<127, 0x87>(block)
     }
 }
 
-// The block that a step came from.
-fn undo<M: Masking>(masking: &M, stepped: Block) -> Block
-    ensures { (x : ℕ) → IsBlock x → stepped ≡ M.onward masking.now x → result ≡ x }
-{
-    masking.back(stepped)
-}
-
-// Steps from a block and goes back again: the block, whatever the masking.
+// Steps from a block and goes back again: the block, whatever the masking. Its twin over ciphers stays: one function over both traits
+// would need a third trait above them, for one line.
 pub fn there_and_back<M: Masking>(masking: &M, block: Block) -> Block
     ensures { result ≡ block }
 {
-    undo(masking, masking.step(block))
+    masking.back(masking.step(block))
 }
 
-// Goes so many steps, or backs where i is negative. As the laws have it, i steps and j more are i + j.
-fn walk<M: Masking>(masking: &M, block: Block, i: i64, count: u64) -> Block
-    requires { count ≡ unsigned_abs i }
-    ensures reached { result ≡ Γ (M.onward masking.now) (M.inward masking.now) block i }
-    ensures add { StepsAdd (M.onward masking.now) (M.inward masking.now) }
+// A block after so many turns of a map.
+fn turned<F: Fn(Block) -> Block>(turn: F, count: u64, block: Block) -> Block
+    requires { F.IsAlwaysCallable turn }
+    ensures { (f : ℕ → ℕ) → Computes (F.post turn) f → result ≡ times f count block }
 {
     let mut reached = block;
     for _ in 0..count {
-        reached = if i < 0 {
-            masking.back(reached)
-        } else {
-            masking.step(reached)
-        };
+        reached = turn(reached);
     }
     reached
 }
 
-// A block after i steps, or after -i backs where i is negative; and that such steps add up.
+// A block after i steps, or after -i backs where i is negative; and that such steps add up: i steps and j more are i + j.
 pub fn steps<M: Masking>(masking: &M, block: Block, i: i64) -> Block
     ensures reached { result ≡ Γ (M.onward masking.now) (M.inward masking.now) block i }
     ensures add { StepsAdd (M.onward masking.now) (M.inward masking.now) }
 {
-    walk(masking, block, i, i.unsigned_abs())
+    let count = i.unsigned_abs();
+    if i < 0 {
+        turned(|block| masking.back(block), count, block)
+    } else {
+        turned(|block| masking.step(block), count, block)
+    }
 }
 
 const WORD: u128 = 0x1_0000_0000;
 
 // The words of a block, the leftmost first.
-fn words(block: Block) -> [u32; 4]
-    ensures { result ≡ word3 block ∷ word2 block ∷ word1 block ∷ word0 block ∷ [] }
-{
-    [
-        (block >> 96) as u32,
-        ((block >> 64) % WORD) as u32,
-        ((block >> 32) % WORD) as u32,
-        (block % WORD) as u32,
-    ]
+#[derive(Clone, Copy)]
+struct Words([u32; 4]);
+
+impl From<Block> for Words {
+    ghost from_gives = { λ b w. w.0 ≡ word3 b ∷ word2 b ∷ word1 b ∷ word0 b ∷ [] };
+
+    fn from(block: Block) -> Words {
+        Words([
+            (block >> 96) as u32,
+            ((block >> 64) % WORD) as u32,
+            ((block >> 32) % WORD) as u32,
+            (block % WORD) as u32,
+        ])
+    }
 }
 
-// The block of four words, the leftmost first.
-fn from_words(a: u32, b: u32, c: u32, d: u32) -> Block
-    ensures { result ≡ of_words a b c d }
-{
-    ((u128::from(a) * WORD + u128::from(b)) * WORD + u128::from(c)) * WORD + u128::from(d)
+impl From<Words> for Block {
+    ghost from_gives = { λ w b. b ≡ of_words (slice_index w.0 0) (slice_index w.0 1) (slice_index w.0 2) (slice_index w.0 3) };
+
+    fn from(words: Words) -> Block {
+        let [a, b, c, d] = words.0.map(u128::from);
+        ((a * WORD + b) * WORD + c) * WORD + d
+    }
 }
 
 // A word times alpha: shifted left by one bit, with 0x0a000021 added if a one was shifted out.
 fn times_alpha(w: u32) -> u32
     ensures { result ≡ alpha w }
 {
-    (w << 1) ^ (0x0a00_0021 * (w >> 31))
+    double::<31, 0x0a00_0021>(w.into()) as u32
 }
 
 // The word that times_alpha came from.
 fn over_alpha(w: u32) -> u32
     ensures { result ≡ alpha_back w }
 {
-    let low = w % 2;
-    ((w ^ (0x0a00_0021 * low)) >> 1) + (low << 31)
+    halve::<31, 0x0a00_0021>(w.into()) as u32
 }
 
 // The tower of four words of 32 bits, leftmost first: a3, a2, a1, a0 step to a2 ^ a3, a1, a0 ^ a3 and alpha a3.
@@ -168,13 +174,13 @@ impl Masking for Tower {
     ghost laws = { λ _. tower_undo };
 
     fn step(&self, block: Block) -> Block {
-        let [a3, a2, a1, a0] = words(block);
-        from_words(a2 ^ a3, a1, a0 ^ a3, times_alpha(a3))
+        let Words([a3, a2, a1, a0]) = block.into();
+        Words([a2 ^ a3, a1, a0 ^ a3, times_alpha(a3)]).into()
     }
 
     fn back(&self, block: Block) -> Block {
-        let [b3, b2, b1, b0] = words(block);
+        let Words([b3, b2, b1, b0]) = block.into();
         let a3 = over_alpha(b0);
-        from_words(a3, b3 ^ a3, b2, b1 ^ a3)
+        Words([a3, b3 ^ a3, b2, b1 ^ a3]).into()
     }
 }

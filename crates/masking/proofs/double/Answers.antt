@@ -1,7 +1,5 @@
-use Rattle.std.proofs.Common.{refl}
-use Rattle.block.specs.Double.{double}
+use Rattle.masking.proofs.Widths.{doubled_as}
 use Rattle.masking.proofs.double.Goals as goal
 
 pub returns : goal.returns
-unfolding double
-returns c = refl
+returns g c = doubled_as g.row.TOP g.row.POLY c.from.result c.args.x c.requires.top c.from.ensures

@@ -1,18 +1,11 @@
-use Rattle.std.proofs.Common.{◌≡◌, ℕ, ◌+◌, ◌*◌, ◌/◌, ◌%◌, ◌^◌, ◌<◌, ap, arith}
-use lib.Bits.{bit_xor, xor_lt}
-use Rattle.block.specs.Double.{halve}
+use Rattle.std.proofs.Common.{arith}
+use Rattle.masking.proofs.Widths.{halved_as, halved_fits}
 use Rattle.masking.proofs.halve.Goals as goal
 
 pub overflow_add-result : goal.overflow_add-result
-overflow_add-result c =
-    let y : ℕ = c.args.block in
-    let a : 135 * (y % 2) < 2 ^ 128 = omega arith in
-    let b : y < 2 ^ 128 = omega arith in
-    omega (arith, xor_lt 128 y (135 * (y % 2)) b a)
+overflow_add-result g c =
+    let f = halved_fits g.row.TOP g.row.POLY c.from.result c.args.x c.requires.top c.from.ensures c.requires.fits c.requires.poly in
+    omega arith
 
 pub returns : goal.returns
-unfolding halve
-returns c =
-    let y : ℕ = c.args.block in
-    let e : (y % 2 * 2 ^ 127) % 2 ^ 128 ≡ y % 2 * 2 ^ 127 = omega arith in
-    ap (λ (n : ℕ). bit_xor y (135 * (y % 2)) / 2 + n) e
+returns g c = halved_as g.row.TOP g.row.POLY c.from.result c.args.x c.requires.top c.from.ensures

@@ -1,18 +1,10 @@
-use Rattle.std.proofs.Common.{◌≡◌, ℕ, ◌+◌, ◌*◌, ◌/◌, ◌%◌, ◌^◌, ◌<◌, ap, arith}
-use lib.Bits.{bit_xor, xor_lt}
+use Rattle.std.proofs.Common.{◌≡◌, refl, rules, ap, ◌∙◌, arith}
 use Rattle.block.specs.Double.{halve}
+use Rattle.block.specs.DoubleLaws.{halve_fits}
 use Rattle.masking.proofs.over_alpha.Goals as goal
 
-pub overflow_add-result : goal.overflow_add-result
-overflow_add-result c =
-    let y : ℕ = c.args.w in
-    let a : 0x0a000021 * (y % 2) < 2 ^ 32 = omega arith in
-    let b : y < 2 ^ 32 = omega arith in
-    omega (arith, xor_lt 32 y (0x0a000021 * (y % 2)) b a)
-
-pub returns : goal.returns
-unfolding halve
-returns c =
-    let y : ℕ = c.args.w in
-    let e : (y % 2 * 2 ^ 31) % 2 ^ 32 ≡ y % 2 * 2 ^ 31 = omega arith in
-    ap (λ (n : ℕ). bit_xor y (0x0a000021 * (y % 2)) / 2 + n) e
+pub overflow_cast-result : goal.overflow_cast-result
+overflow_cast-result c =
+    let same : c.into.result ≡ c.args.w = search rules in
+    let e : c.halve.result ≡ halve 31 0x0a000021 c.args.w = c.halve.ensures ∙ ap (halve 31 0x0a000021) same in
+    omega (arith, halve_fits 31 0x0a000021 refl (omega arith) c.args.w (omega arith))

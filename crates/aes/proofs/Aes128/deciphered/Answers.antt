@@ -1,19 +1,21 @@
-use Rattle.std.proofs.Common.{◌≡◌, ℕ, subst, arith}
-use Rattle.aes.specs.RoundKeys.{cells_of}
-use Rattle.aes.proofs.Rounds.{Deciphering, deciphering_none, deciphering_more, deciphering_all}
+use Rattle.std.proofs.Common.{refl, arith}
+use Rattle.aes.proofs.Rounds.{inv_inner_round, inv_last_round_lem, deciphering_more, deciphering_all, key_is}
 use Rattle.aes.proofs.Aes128.deciphered.Goals as goal
 
-pub loop-i-init : goal.loop-i-init
-loop-i-init c = deciphering_none (cells_of c.args.self.now.keys) c.add_round_key-s.result
-
-pub loop-i-preserved : goal.loop-i-preserved
-loop-i-preserved c =
-    deciphering_more (cells_of c.args.self.now.keys) c.loop-i.i c.add_round_key-s.result c.loop-i.s c.inv_round-next.result
-    c.loop-i-test.true c.loop-i.invariant c.inv_round-next.ensures.inner c.inv_round-next.ensures.last
+pub loop-key-preserved : goal.loop-key-preserved
+loop-key-preserved c =
+    deciphering_more c.args.self.now.keys c.loop-key.key-iterator.iter.rest.now c.next.new.self.iter.rest.now c.in-Some.key.now
+    c.add_round_key-s.result.cells c.loop-key.s.cells c.inv_mix_columns-s.result.cells (omega arith) c.in-Some.ensures.steps
+    (inv_inner_round c.in-Some.key.now.cells c.loop-key.s.cells c.inv_sub_bytes.result.cells c.inv_shift_rows.result.cells c.in-Some.key.now.cells
+    c.inv_mix_columns-s.result.cells c.add_round_key.result.cells
+    c.inv_shift_rows.ensures c.inv_sub_bytes.ensures refl c.add_round_key.ensures c.inv_mix_columns-s.ensures)
+    c.loop-key.invariant
 
 pub returns : goal.returns
 returns c =
-    let e : c.loop-i.i ≡ 0 = omega arith in
-    deciphering_all (cells_of c.args.self.now.keys) c.args.end c.round_key.result c.add_round_key-s.result c.loop-i.s
-    c.round_key.ensures c.add_round_key-s.ensures
-    (subst (λ (n : ℕ). Deciphering (cells_of c.args.self.now.keys) n c.add_round_key-s.result c.loop-i.s) e c.loop-i.invariant)
+    deciphering_all c.args.self.now.keys c.loop-key.key-iterator.iter.rest.now c.args.end.cells _ _
+    c.add_round_key-s.result.cells c.add_round_key-2.result.cells c.loop-key.s.cells
+    c.in-None.ensures.steps.0 (key_is c.args.self.now.keys 0 _ (omega arith)) (key_is c.args.self.now.keys 10 _ (omega arith)) c.add_round_key-s.ensures
+    (inv_last_round_lem _ c.loop-key.s.cells c.inv_sub_bytes-2.result.cells c.inv_shift_rows-2.result.cells _ c.add_round_key-2.result.cells
+    c.inv_shift_rows-2.ensures c.inv_sub_bytes-2.ensures refl c.add_round_key-2.ensures)
+    c.loop-key.invariant

@@ -1,6 +1,6 @@
 use Rattle.std.proofs.Common.{◌∙◌, arith}
 use Rattle.aes.specs.State.{block_of}
-use Rattle.aes.proofs.steps.block_of.Goals as goal
+use Rattle.aes.proofs.state.BlockFromState.from.Goals as goal
 
 pub returns : goal.returns
 unfolding block_of
