@@ -8,7 +8,7 @@ loop-key-preserved c =
     behind_more c.args.self.now.keys c.loop-key.key-iterator.iter.rest.now c.next.new.self.iter.rest.now
     c.in-Some.key.now (joined c.args.words.left c.args.words.right)
     c.loop-key.words.left c.loop-key.words.right c.round_back-words.result.left c.round_back-words.result.right
-    (omega (arith, c.in-Some.ensures)) c.in-Some.ensures.steps c.round_back-words.ensures.left c.round_back-words.ensures.right c.loop-key.invariant
+    (omega arith) c.in-Some.ensures.steps c.round_back-words.ensures.left c.round_back-words.ensures.right c.loop-key.invariant
 
 pub returns : goal.returns
 returns c =
