@@ -2,7 +2,7 @@
 // with one generic method.
 ghost use Rattle.std.specs.Prelude.{◌≡◌, ℕ, List};
 ghost use Rattle.mode.specs.Sealing.{Maps};
-ghost use Rattle.mode.specs.Pairs.{maps_of};
+ghost use Rattle.mode.specs.Pairs.{maps};
 ghost use Rattle.capi.specs.Choices.{forward_under, backward_under, masked_by, maps_under};
 
 use crate::choices::{Choice, CipherChoice, KeyedCipher, MaskingChoice};
@@ -30,7 +30,7 @@ pub(crate) trait PairCall {
     ghost gives: { Self → Maps → List ℕ → List ℕ → Self.Answer → Type 0 };
 
     fn with<C: Cipher, M: Masking>(self, pair: &Pair<C, M>, out: &mut [u8]) -> Self::Answer
-        ensures { gives self (maps_of C.forward C.backward M.onward M.inward pair.now) out.old out.new result };
+        ensures { gives self (maps C.Cipher M.Masking pair.now) out.old out.new result };
 }
 
 impl<'a> KeyedCipher<'a> {
