@@ -1,4 +1,4 @@
-use Rattle.std.proofs.Common.{ℕ, ◌+◌, sym, refl, ap, ◌∙◌, add-one, arith}
+use Rattle.std.proofs.Common.{ℕ, sym, refl, ap, ◌∙◌, add-one}
 use Rattle.masking.specs.Steps.{times}
 use Rattle.masking.proofs.turned.Goals as goal
 
