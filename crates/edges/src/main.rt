@@ -3,7 +3,7 @@
 
 use cipher::Identity;
 use masking::Doubling;
-use mode::Pair;
+use mode::{Mode, Pair};
 use station::{Opened, Station, StationFault};
 use std::io;
 
@@ -12,6 +12,9 @@ const LONGEST: usize = 2096;
 
 // The last number that a frame can bear.
 const LAST: u64 = 281_474_976_710_655;
+
+// The mode of every frame here, by its number.
+const FORWARD: u8 = Mode::Forward as u8;
 
 type Plain = Station<Identity, Doubling>;
 
@@ -23,7 +26,7 @@ fn plain(own: u8, peer: u8, start: u64, floor: u64) -> Result<Plain, StationFaul
 // Reserves a number and seals a message under it.
 fn seal_next(station: &mut Plain, message: &[u8], out: &mut [u8]) -> Result<usize, StationFault> {
     let ticket = station.reserve()?;
-    station.seal(ticket, 1, &[], message, out)
+    station.seal(ticket, FORWARD, &[], message, out)
 }
 
 // Seals a message of so many bytes at a new station, and answers the frame's length.
@@ -60,49 +63,50 @@ fn spend_all(first: u64) -> Result<u64, StationFault> {
     hub.give_up(lost)?;
     let used = hub.reserve()?;
     let number = used.number();
-    let _length = hub.seal(used, 1, &[], &[], &mut out)?;
+    let _length = hub.seal(used, FORWARD, &[], &[], &mut out)?;
     Ok(number)
 }
 
-// A number for a line of print, or the refusal in its place.
-fn told(rt: &HostRuntime, what: &str, answer: Result<u64, StationFault>) -> io::Result<()> {
-    match answer {
-        Ok(n) => println!(rt; "{what}: {n}"),
-        Err(fault) => println!(rt; "{what}: refused {fault}"),
-    }
-}
-
-fn length(answer: Result<usize, StationFault>) -> Result<u64, StationFault> {
-    Ok(answer? as u64)
-}
-
-fn number(answer: Result<Opened, StationFault>) -> Result<u64, StationFault> {
-    Ok(answer?.number)
-}
-
 fn main(rt: HostRuntime) -> io::Result<()> {
-    told(
-        &rt,
-        "frame of a message of 1024 bytes",
-        length(seal_long(1024)),
-    )?;
-    told(
-        &rt,
-        "frame of a message of 1025 bytes",
-        length(seal_long(1025)),
-    )?;
-    told(&rt, "number of a frame of 48 bytes", number(open_short(48)))?;
-    told(&rt, "number of a frame of 47 bytes", number(open_short(47)))?;
-    told(&rt, "number 7 with highest 7", number(open_above(7, 7)))?;
-    told(&rt, "number 8 with highest 7", number(open_above(8, 7)))?;
-    told(
-        &rt,
-        "sealed under the second number from the last but one on",
-        spend_all(LAST - 1),
-    )?;
-    told(
-        &rt,
-        "sealed under the second number from the last on",
-        spend_all(LAST),
-    )
+    let edges = [
+        (
+            "frame of a message of 1024 bytes",
+            seal_long(1024).map(|length| length as u64),
+        ),
+        (
+            "frame of a message of 1025 bytes",
+            seal_long(1025).map(|length| length as u64),
+        ),
+        (
+            "number of a frame of 48 bytes",
+            open_short(48).map(|opened| opened.number),
+        ),
+        (
+            "number of a frame of 47 bytes",
+            open_short(47).map(|opened| opened.number),
+        ),
+        (
+            "number 7 with highest 7",
+            open_above(7, 7).map(|opened| opened.number),
+        ),
+        (
+            "number 8 with highest 7",
+            open_above(8, 7).map(|opened| opened.number),
+        ),
+        (
+            "sealed under the second number from the last but one on",
+            spend_all(LAST - 1),
+        ),
+        (
+            "sealed under the second number from the last on",
+            spend_all(LAST),
+        ),
+    ];
+    for (what, answer) in edges {
+        match answer {
+            Ok(number) => println!(rt; "{what}: {number}")?,
+            Err(fault) => println!(rt; "{what}: refused {fault}")?,
+        }
+    }
+    Ok(())
 }
