@@ -10,7 +10,7 @@ use layer::Refusal;
 use masking::Masking;
 use mode::{Mode, Pair};
 use std::cell::Cell;
-use std::fmt;
+use std::{array, fmt};
 
 // The longest header and the longest message.
 const HEADER: usize = 33;
@@ -31,27 +31,25 @@ pub struct Bench<'c, 'n, C, M> {
 // How often the cipher was asked, and how often it should be.
 #[derive(Clone, Copy)]
 pub struct Calls {
-    seal: usize,
-    open: usize,
+    to_seal: usize,
+    to_open: usize,
     promised: usize,
 }
 
 impl Calls {
     pub fn agrees(self) -> bool
-        ensures { T result → (self.seal ≡ self.promised) × (self.open ≡ self.promised) }
+        ensures { T result → (self.to_seal ≡ self.promised) × (self.to_open ≡ self.promised) }
     {
-        self.seal == self.promised && self.open == self.promised
+        self.to_seal == self.promised && self.to_open == self.promised
     }
 }
 
 impl fmt::Display for Calls {
     fn fmt<W: fmt::Write>(&self, f: &mut fmt::Formatter<W>) -> fmt::Result {
-        let seal = self.seal;
-        let open = self.open;
-        let promised = self.promised;
         write!(
             f,
-            "{seal} cipher calls to seal, {open} to open, {promised} promised"
+            "{} cipher calls to seal, {} to open, {} promised",
+            self.to_seal, self.to_open, self.promised
         )
     }
 }
@@ -95,29 +93,27 @@ fn last(bytes: &[u8]) -> &[u8] {
 fn all_zero(bytes: &[u8]) -> bool
     ensures { T result → (k : ℕ) → k < length bytes.now → slice_index bytes.now k ≡ 0 }
 {
-    for b in bytes {
-        if *b != 0 {
-            return false;
-        }
+    bytes.iter().all(|byte| *byte == 0)
+}
+
+// Flips one byte in each block of a string in turn, and notes whether what comes of it is refused.
+fn flip_each<F: FnMut(&[u8]) -> bool>(bytes: &mut [u8], tally: &mut Tally, mut refused: F)
+    requires { F.IsAlwaysCallable refused }
+{
+    for block in 0..bytes.len().div_ceil(16) {
+        flip(bytes, block);
+        tally.note(refused(bytes));
+        flip(bytes, block);
     }
-    true
 }
 
 impl<'c, 'n, C: Cipher, M: Masking> Bench<'c, 'n, C, M> {
     pub fn new(pair: Pair<Counting<'c, 'n, C>, M>, calls: &'n Cell<usize>) -> Bench<'c, 'n, C, M> {
-        let mut header = [0; HEADER];
-        for i in 0..HEADER {
-            header[i] = (i * 11 % 251) as u8;
-        }
-        let mut message = [0; MESSAGE];
-        for i in 0..MESSAGE {
-            message[i] = (i * 7 % 253) as u8;
-        }
         Bench {
             pair,
             calls,
-            header,
-            message,
+            header: array::from_fn(|i| (i * 11 % 251) as u8),
+            message: array::from_fn(|i| (i * 7 % 253) as u8),
         }
     }
 
@@ -157,45 +153,8 @@ impl<'c, 'n, C: Cipher, M: Masking> Bench<'c, 'n, C, M> {
         }
     }
 
-    // One byte flipped in each block of the header in turn.
-    fn flip_header(
-        &self,
-        mode: Mode,
-        header: &[u8],
-        sealed: &[u8],
-        tag: Block,
-        out: &mut [u8],
-        tally: &mut Tally,
-    ) {
-        let n = header.len().min(HEADER);
-        let mut room = [0; HEADER];
-        let other = &mut room[0..n];
-        other.copy_from_slice(&header[0..n]);
-        for block in 0..n.div_ceil(16) {
-            flip(other, block);
-            tally.note(self.refuses(mode, other, sealed, tag, out));
-            flip(other, block);
-        }
-    }
-
-    // One byte flipped in each block of the sealed bytes in turn.
-    fn flip_sealed(
-        &self,
-        mode: Mode,
-        header: &[u8],
-        sealed: &mut [u8],
-        tag: Block,
-        out: &mut [u8],
-        tally: &mut Tally,
-    ) {
-        for block in 0..sealed.len().div_ceil(16) {
-            flip(sealed, block);
-            tally.note(self.refuses(mode, header, sealed, tag, out));
-            flip(sealed, block);
-        }
-    }
-
-    // The cases of one mode; answers the tag.
+    // The cases of one mode, with a header from the front of the bench's; answers the tag. Rooms are cut from arrays here and below: vectors would
+    // take the heap, and an error that never comes, through every function from here to main.
     fn run_mode(
         &self,
         mode: Mode,
@@ -211,8 +170,15 @@ impl<'c, 'n, C: Cipher, M: Masking> Bench<'c, 'n, C, M> {
         let mut room = [0; MESSAGE];
         let out = &mut room[0..sealed.len().min(MESSAGE)];
         tally.note(self.opens(mode, header, sealed, tag, message, out));
-        self.flip_header(mode, header, sealed, tag, out, tally);
-        self.flip_sealed(mode, header, sealed, tag, out, tally);
+        let mut other = self.header;
+        flip_each(&mut other[0..header.len().min(HEADER)], tally, |header| {
+            self.refuses(mode, header, sealed, tag, out)
+        });
+        flip_each(
+            sealed,
+            tally,
+            |sealed| self.refuses(mode, header, sealed, tag, out),
+        );
         tally.note(self.refuses(mode, header, sealed, tag ^ (1 << 77), out));
         Some(tag)
     }
@@ -244,15 +210,15 @@ impl<'c, 'n, C: Cipher, M: Masking> Bench<'c, 'n, C, M> {
         let done = self
             .pair
             .seal(Mode::Forward, NONCE, header, message, sealed);
-        let seal = self.calls.get();
+        let to_seal = self.calls.get();
         self.calls.set(0);
         let tag = done.unwrap_or(0);
         let _ = self
             .pair
             .open(Mode::Forward, NONCE, header, sealed, tag, out);
         Calls {
-            seal,
-            open: self.calls.get(),
+            to_seal,
+            to_open: self.calls.get(),
             promised: promised(header.len(), n),
         }
     }

@@ -42,10 +42,7 @@ const COUNTED: [(usize, usize); 8] = [
 fn sweep<C: Cipher, M: Masking>(bench: &Bench<'_, '_, C, M>) -> Tally {
     let mut tally = Tally::new();
     for header in HEADERS {
-        for message in 0..=SHORT {
-            bench.run(header, message, &mut tally);
-        }
-        for message in LONG {
+        for message in (0..=SHORT).chain(LONG) {
             bench.run(header, message, &mut tally);
         }
     }

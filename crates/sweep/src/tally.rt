@@ -45,8 +45,6 @@ impl Tally {
 
 impl fmt::Display for Tally {
     fn fmt<W: fmt::Write>(&self, f: &mut fmt::Formatter<W>) -> fmt::Result {
-        let cases = self.cases;
-        let failed = self.failed;
-        write!(f, "{cases} cases, {failed} failed")
+        write!(f, "{} cases, {} failed", self.cases, self.failed)
     }
 }
