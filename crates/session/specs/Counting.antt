@@ -1,5 +1,5 @@
 -- How a line of a script is counted: it is passed over, not read, or makes exactly one call, which is accepted or refused.
-use Rattle.std.specs.Prelude.{◌≡◌, ℕ, false, ◌⊎◌, List, [], ◌++◌, Ok, Err, string_bytes, codes, IsUtf8, decimal, Result, String}
+use Rattle.std.specs.Prelude.{◌≡◌, ℕ, ◌⊎◌, List, [], ◌++◌, Ok, Err, string_bytes, codes, IsUtf8, decimal, Result, String}
 use Rattle.std.specs.BTreeMap.{btree_map_len}
 use Rattle.std.specs.declared.alloc.Global.{Global}
 use Rattle.script.specs.declared.tally.Tally.{Tally}

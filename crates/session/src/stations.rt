@@ -148,9 +148,7 @@ impl Stations {
             .members
             .values()
             .any(|member| member.held.contains_key(label));
-        let Some(member) = self.members.get_mut(name) else {
-            return Err(Halt::from(Reason::UnknownStation));
-        };
+        let member = self.members.get_mut(name).ok_or(Reason::UnknownStation)?;
         if in_use {
             return Err(Halt::from(Reason::LabelInUse));
         }
@@ -193,17 +191,13 @@ impl Stations {
     }
 
     fn open(&mut self, name: &str, frame: &[u8], out: &mut [u8]) -> Result<Answer, Halt> {
-        let Some(member) = self.members.get_mut(name) else {
-            return Err(Halt::from(Reason::UnknownStation));
-        };
+        let member = self.members.get_mut(name).ok_or(Reason::UnknownStation)?;
         let Opened { length, number } = member.station.open(frame, out)?;
         Ok(Answer::Opened { length, number })
     }
 
     fn state(&self, name: &str) -> Result<StateLine, Halt> {
-        let Some(Member { station, held: _ }) = self.members.get(name) else {
-            return Err(Halt::from(Reason::UnknownStation));
-        };
+        let Member { station, .. } = self.members.get(name).ok_or(Reason::UnknownStation)?;
         Ok(StateLine {
             next: station.next(),
             out: OrDash(station.out()),
