@@ -142,7 +142,7 @@ impl<'c, 'n, C: Cipher, M: Masking> Bench<'c, 'n, C, M> {
         done.is_ok() && &*out == message && calls == promised(header.len(), sealed.len())
     }
 
-    // Whether opening is refused with fault 2 and leaves zeros.
+    // Whether opening is refused with fault 2 and leaves zeros. Each use changes another of the five values, so no struct holds them.
     fn refuses(&self, mode: Mode, header: &[u8], sealed: &[u8], tag: Block, out: &mut [u8]) -> bool
         ensures { T result → (k : ℕ) → k < length out.new → slice_index out.new k ≡ 0 }
     {
