@@ -1,13 +1,12 @@
 // AES-128 of FIPS 197, as a block cipher.
 #![tactic(auto)]
 
-ghost use Rattle.std.specs.Prelude.{◌≡◌, ℕ, ◌+◌, ◌/◌, ◌%◌, ◌<◌, ◌≤◌, [], MatchOption, slice_index_or};
+ghost use Rattle.std.specs.Prelude.{◌≡◌, ℕ, ◌<◌, ◌≤◌, [], MatchOption, slice_index_or};
 ghost use Rattle.block.specs.Bytes.{number_of};
-ghost use Rattle.aes.specs.Cipher.{round, last_round, inv_round_of, inv_last_round, enciphered, deciphered, cipher, inv_cipher};
+ghost use Rattle.aes.specs.Cipher.{enciphered, deciphered, cipher, inv_cipher};
 ghost use Rattle.aes.specs.CipherLaws.{AllKeyBytes, cipher_undo};
 ghost use Rattle.aes.specs.KeyExpansion.{expanded_key, round_keys, word_at};
 ghost use Rattle.aes.specs.RoundKeys.{cells_of};
-ghost use Rattle.aes.specs.State.{column_then};
 
 use block::Block;
 use cipher::Cipher;
