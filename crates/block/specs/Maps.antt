@@ -34,6 +34,10 @@ undo_then f g h k a b =
       there_back = λ x q. ap h (a.there_back (k x) (b.back_fits x q)) ∙ b.there_back x q;
     }
 
+-- there and back again
+pub undone : (f g : ℕ → ℕ) → Undo f g → (x : ℕ) → IsBlock x → g (f x) ≡ x
+undone f g u x h = u.back_there x h
+
 -- such a map tells blocks apart
 pub undo_tells : (f g : ℕ → ℕ) → Undo f g → (x y : ℕ) → IsBlock x → IsBlock y → f x ≡ f y → x ≡ y
 undo_tells f g u x y hx hy e = sym (u.back_there x hx) ∙ ap g e ∙ u.back_there y hy

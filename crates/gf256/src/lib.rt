@@ -14,6 +14,7 @@ use inverse_table::ORIGINALS;
 use table::SUBSTITUTES;
 
 // The byte that stands for a byte: its inverse in the field, and then a map of its bits.
+#[tactic(auto, using(crate::proofs::Right::entry_substituted, crate::proofs::Right::inverse_is))]
 pub fn substitute(b: u8) -> u8
     ensures value { result ≡ substituted b }
     ensures inverse { IsInverse b (inverse b) }
@@ -22,6 +23,7 @@ pub fn substitute(b: u8) -> u8
 }
 
 // The byte that a byte stands for.
+#[tactic(auto, using(crate::proofs::Right::entry_restored))]
 pub fn restore(b: u8) -> u8
     ensures { result ≡ restored b }
 {
@@ -37,6 +39,7 @@ pub fn times_x(a: u8) -> u8
 
 // A byte of a mixed column, from the column's bytes in their order from that place on: twice a, three times b, c and d, added, by one
 // doubling of a + b.
+#[tactic(auto, using(crate::proofs::Right::column_mixed))]
 pub fn mix_byte(a: u8, b: u8, c: u8, d: u8) -> u8
     ensures { result ≡ coefficient mixing a b c d }
 {
@@ -45,6 +48,7 @@ pub fn mix_byte(a: u8, b: u8, c: u8, d: u8) -> u8
 
 // A byte of the column that a mixed one came from, in the same order: the multiples of a by 14, b by 11, c by 13 and d by 9, added, by
 // three doublings, the highest power of x first.
+#[tactic(auto, using(crate::proofs::Right::column_unmixed))]
 pub fn unmix_byte(a: u8, b: u8, c: u8, d: u8) -> u8
     ensures { result ≡ coefficient mixing_back a b c d }
 {

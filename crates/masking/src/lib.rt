@@ -89,6 +89,7 @@ impl Masking for Doubling {
 
 // Steps from a block and goes back again: the block, whatever the masking. Its twin over ciphers stays: one function over both traits
 // would need a third trait above them, for one line.
+#[tactic(auto, using(block::specs::Maps::undone))]
 pub fn there_and_back<M: Masking>(masking: &M, block: Block) -> Block
     ensures { result ≡ block }
 {
