@@ -49,32 +49,6 @@ impl HeadField {
     }
 }
 
-// Whether the head's fields keep their rules; if not, the field of the lowest place that breaks its rule.
-fn check_fields(frame: &[u8]) -> Result<(), HeadField>
-    requires { 48 ≤ length frame.now }
-    ensures { elim result [ Ok _ ↦ AllHold frame.now | Err field ↦ Breaks field frame.now ] }
-{
-    let clear = number(&frame[2..4]);
-    let sealed = number(&frame[4..6]);
-    HeadField::AfterMode.keeps(number(&frame[1..2]) == 0)?;
-    HeadField::ClearLength.keeps(clear <= 1024)?;
-    HeadField::SealedLength.keeps(sealed <= 1024)?;
-    HeadField::ClearStart.keeps(number(&frame[6..8]) == 32)?;
-    HeadField::SealedStart.keeps(number(&frame[8..10]) == 32 + clear)?;
-    HeadField::TagStart.keeps(number(&frame[10..12]) == 32 + clear + sealed)?;
-    HeadField::BeforeSender.keeps(number(&frame[12..16]) == 0)?;
-    HeadField::AfterSender.keeps(number(&frame[17..24]) == 0)?;
-    HeadField::BeforeNumber.keeps(number(&frame[24..26]) == 0)
-}
-
-// Where a frame's tag ends, by its head.
-fn end(frame: &[u8]) -> usize
-    requires { (48 ≤ length frame.now) × (AllHold frame.now) }
-    ensures { result ≡ tag_start frame.now + 16 }
-{
-    number(&frame[10..12]) as usize + 16
-}
-
 // The piece of a frame from one place to another.
 fn piece_of(frame: &[u8], at: usize, end: usize) -> Piece<'_>
     requires { (at ≤ end) × (end ≤ length frame.now) }
@@ -87,24 +61,58 @@ fn piece_of(frame: &[u8], at: usize, end: usize) -> Piece<'_>
     }
 }
 
-// Cuts a frame whose head keeps every rule, and that ends where its tag does.
-fn cut(frame: &[u8], mode: Mode) -> FrameParts<'_>
-    requires long { 48 ≤ length frame.now }
-    requires known { mode_byte frame.now ≡ mode_value mode }
-    requires fields { AllHold frame.now }
-    requires whole { length frame.now ≡ tag_start frame.now + 16 }
-    ensures { PartsOf frame.now result }
-{
-    let sealed_at = number(&frame[8..10]) as usize;
-    let tag_at = number(&frame[10..12]) as usize;
-    FrameParts {
-        mode,
-        sender: frame[16],
-        number: number(&frame[26..32]),
-        header: &frame[0..sealed_at],
-        clear: piece_of(frame, 32, sealed_at),
-        sealed: piece_of(frame, sealed_at, tag_at),
-        tag: piece_of(frame, tag_at, frame.len()),
+// A frame with a whole head.
+#[derive(Clone, Copy)]
+struct Head<'a> {
+    frame: &'a [u8],
+    ghost long: { 48 ≤ length frame.now },
+}
+
+impl<'a> Head<'a> {
+    // Whether its fields keep their rules; if not, the field of the lowest place that breaks its rule.
+    fn check_fields(&self) -> Result<(), HeadField>
+        ensures { elim result [ Ok _ ↦ AllHold self.now.frame.now | Err field ↦ Breaks field self.now.frame.now ] }
+    {
+        let frame = self.frame;
+        let clear = number(&frame[2..4]);
+        let sealed = number(&frame[4..6]);
+        HeadField::AfterMode.keeps(number(&frame[1..2]) == 0)?;
+        HeadField::ClearLength.keeps(clear <= 1024)?;
+        HeadField::SealedLength.keeps(sealed <= 1024)?;
+        HeadField::ClearStart.keeps(number(&frame[6..8]) == 32)?;
+        HeadField::SealedStart.keeps(number(&frame[8..10]) == 32 + clear)?;
+        HeadField::TagStart.keeps(number(&frame[10..12]) == 32 + clear + sealed)?;
+        HeadField::BeforeSender.keeps(number(&frame[12..16]) == 0)?;
+        HeadField::AfterSender.keeps(number(&frame[17..24]) == 0)?;
+        HeadField::BeforeNumber.keeps(number(&frame[24..26]) == 0)
+    }
+
+    // Where the tag begins.
+    fn tag_at(&self) -> usize
+        ensures { result ≡ tag_start self.now.frame.now }
+    {
+        number(&self.frame[10..12]) as usize
+    }
+
+    // Cuts the frame, where its head keeps every rule and it ends where its tag does.
+    fn cut(self, mode: Mode) -> FrameParts<'a>
+        requires known { mode_byte self.frame.now ≡ mode_value mode }
+        requires fields { AllHold self.frame.now }
+        requires whole { length self.frame.now ≡ tag_start self.frame.now + 16 }
+        ensures { PartsOf self.entry.frame.now result }
+    {
+        let frame = self.frame;
+        let sealed_at = number(&frame[8..10]) as usize;
+        let tag_at = self.tag_at();
+        FrameParts {
+            mode,
+            sender: frame[16],
+            number: number(&frame[26..32]),
+            header: &frame[0..sealed_at],
+            clear: piece_of(frame, 32, sealed_at),
+            sealed: piece_of(frame, sealed_at, tag_at),
+            tag: piece_of(frame, tag_at, frame.len()),
+        }
     }
 }
 
@@ -115,10 +123,11 @@ pub fn parts(frame: &[u8]) -> Result<FrameParts<'_>, FrameFault>
     if frame.len() < 48 {
         return Err(FrameFault::FrameShort);
     }
+    let head = Head { frame };
     let mode = Mode::try_from(frame[0])?;
-    check_fields(frame)?;
-    if frame.len() != end(frame) {
+    head.check_fields()?;
+    if frame.len() - 16 != head.tag_at() {
         return Err(FrameFault::FrameLength);
     }
-    Ok(cut(frame, mode))
+    Ok(head.cut(mode))
 }
