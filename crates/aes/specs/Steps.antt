@@ -34,6 +34,10 @@ row_turned w n = slice_index w n ∷ slice_index w ((n + 1) % 4) ∷ slice_index
 abbrev pub row_from : State → ℕ → ℕ → List ℕ
 row_from s r c = cell s r c ∷ cell s r ((c + 1) % 4) ∷ cell s r ((c + 2) % 4) ∷ cell s r ((c + 3) % 4) ∷ []
 
+-- the rows after the first moved left by so many places
+abbrev pub rows_shifted : ℕ → ℕ → ℕ → State → State
+rows_shifted q u v s = row_from s 0 0 ∷ row_from s 1 q ∷ row_from s 2 u ∷ row_from s 3 v ∷ []
+
 -- row shift: row r moves left by r places
 abbrev pub shift_rows_of : State → State
 shift_rows_of s = row_from s 0 0 ∷ row_from s 1 1 ∷ row_from s 2 2 ∷ row_from s 3 3 ∷ []

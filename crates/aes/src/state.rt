@@ -3,7 +3,7 @@ ghost use Rattle.std.specs.Prelude.{◌≡◌, ℕ, ◌<◌, List, []};
 ghost use Rattle.block.specs.Bytes.{number_of};
 ghost use Rattle.gf256.specs.Column.{coefficient};
 ghost use Rattle.aes.specs.State.{column_then, IsRowsOf, state_of, block_of};
-ghost use Rattle.aes.specs.Steps.{Computes, ComputesOfFour, over_row, over_rows, row_turned, product_row, multiplied, sub_bytes_of, inv_sub_bytes_of, shift_rows_of, inv_shift_rows_of, mix_columns_of, inv_mix_columns_of, sum_row_of, add_round_key_of};
+ghost use Rattle.aes.specs.Steps.{Computes, ComputesOfFour, over_row, over_rows, row_turned, product_row, multiplied, sub_bytes_of, inv_sub_bytes_of, rows_shifted, shift_rows_of, inv_shift_rows_of, mix_columns_of, inv_mix_columns_of, sum_row_of, add_round_key_of};
 
 use block::Block;
 use gf256::{mix_byte, restore, substitute, unmix_byte};
@@ -105,6 +105,17 @@ impl State {
         }
     }
 
+    // The rows after the first moved left by so many places, known at compile time.
+    fn shifted<const Q: u32, const U: u32, const V: u32>(self) -> State
+        requires { (Q < 4) × (U < 4) × (V < 4) }
+        ensures { result.cells ≡ rows_shifted Q U V self.cells }
+    {
+        let [p, q, u, v] = self.cells;
+        State {
+            cells: [turned(p, 0), turned(q, Q), turned(u, U), turned(v, V)],
+        }
+    }
+
     // Each column times a polynomial, by the map that gives a byte of one from a column's bytes from that place on.
     fn mixed<F: Fn(u8, u8, u8, u8) -> u8>(self, mix: F) -> State
         requires { F.IsAlwaysCallable mix }
@@ -139,20 +150,14 @@ impl State {
     pub fn shift_rows(self) -> State
         ensures { result.cells ≡ shift_rows_of self.cells }
     {
-        let [p, q, u, v] = self.cells;
-        State {
-            cells: [turned(p, 0), turned(q, 1), turned(u, 2), turned(v, 3)],
-        }
+        self.shifted::<1, 2, 3>()
     }
 
     // Row i moves right by i places.
     pub fn inv_shift_rows(self) -> State
         ensures { result.cells ≡ inv_shift_rows_of self.cells }
     {
-        let [p, q, u, v] = self.cells;
-        State {
-            cells: [turned(p, 0), turned(q, 3), turned(u, 2), turned(v, 1)],
-        }
+        self.shifted::<3, 2, 1>()
     }
 
     // Column mix: each column times the fixed polynomial.
