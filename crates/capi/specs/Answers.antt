@@ -1,5 +1,5 @@
 -- What the calls answer and write, in every case.
-use Rattle.std.specs.Prelude.{◌≡◌, ℕ, ◌*◌, ◌/◌, List, ◌++◌, length, drop, Ok, Err, Result, ◌≢◌}
+use Rattle.std.specs.Prelude.{◌≡◌, ℕ, ◌*◌, ◌/◌, List, [], ◌++◌, length, drop, Ok, Err, Result, ◌≢◌}
 use Rattle.block.specs.Bytes.{bytes_of, block_at}
 use Rattle.block.specs.Cut.{through}
 use Rattle.mode.specs.declared.fault.ModeFault.{ModeFault}
@@ -34,6 +34,11 @@ FrameOpened w frame was out code = FrameAnswers (FrameOpens w frame was out) cod
 abbrev pub Under : Result Choice NotMade → List ℕ → (Maps → Type 0) → Type 0 → ℕ → Type 0
 Under (Ok choice) key Gives Stays code = Gives (maps_under choice.keyed.cipher choice.masking key)
 Under (Err why) key Gives Stays code = (code ≡ not_made_code why) × Stays
+
+-- the key of a choice
+abbrev pub key_of : Result Choice NotMade → List ℕ
+key_of (Ok choice) = choice.keyed.key.now
+key_of (Err why) = []
 
 pub record Called (cipher masking : ℕ) (key : List ℕ) (Gives : Maps → Type 0) (Stays : Type 0) (code : ℕ) : Type 0 where
   pub choice : Result Choice NotMade
@@ -88,6 +93,11 @@ MapsBlocks f was out count = (count ≡ 16 * (length was / 16)) × (out ≡ mapp
 abbrev pub UnderCipher : Result KeyedCipher NotMade → (CipherChoice → ℕ → Type 0) → Type 0 → ℕ → Type 0
 UnderCipher (Ok keyed) Gives Stays code = Gives keyed.cipher code
 UnderCipher (Err why) Gives Stays code = (code ≡ not_made_code why) × Stays
+
+-- the key of a chosen cipher
+abbrev pub cipher_key_of : Result KeyedCipher NotMade → List ℕ
+cipher_key_of (Ok keyed) = keyed.key.now
+cipher_key_of (Err why) = []
 
 pub record BlocksCalled (cipher : ℕ) (key : List ℕ) (Gives : CipherChoice → ℕ → Type 0) (Stays : Type 0) (code : ℕ) : Type 0 where
   pub choice : Result KeyedCipher NotMade

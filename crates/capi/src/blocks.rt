@@ -2,10 +2,10 @@
 ghost use Rattle.std.specs.Prelude.{◌≡◌, ℕ, ◌*◌, ◌/◌, length};
 ghost use Rattle.capi.specs.Choices.{forward_under, backward_under};
 ghost use Rattle.capi.specs.Codes.{code_of};
-ghost use Rattle.capi.specs.Answers.{mapped, BlocksCalled, BlocksMapped, MapsBlocks};
+ghost use Rattle.capi.specs.Answers.{mapped, UnderCipher, BlocksMapped, MapsBlocks, cipher_key_of};
 
 use crate::calls::CipherCall;
-use crate::choices::KeyedCipher;
+use crate::choices::{KeyedCipher, NotMade};
 use crate::codes::{Fault, code};
 use block::{load, store};
 use cipher::{Cipher, Inverse};
@@ -52,28 +52,27 @@ impl CipherCall for Decryption {
     }
 }
 
-// Makes a call over the cipher that a number chooses.
+// Makes a call over the cipher that was chosen.
 fn map_blocks<F: CipherCall<Answer = usize> + Drop>(
-    cipher: u8,
-    key: &[u8],
+    keyed: Result<KeyedCipher<'_>, NotMade>,
     call: F,
     bytes: &mut [u8],
 ) -> Result<usize, Fault>
-    ensures { BlocksCalled cipher key.now (λ choice. F.gives call (forward_under key.now choice) (backward_under key.now choice) bytes.old bytes.new) (bytes.new ≡ bytes.old) (code_of result) }
+    ensures { UnderCipher keyed.entry (λ cipher. F.gives call (forward_under (cipher_key_of keyed.entry) cipher) (backward_under (cipher_key_of keyed.entry) cipher) bytes.old bytes.new) (bytes.new ≡ bytes.old) (code_of result) }
 {
-    Ok(KeyedCipher::of(cipher, key)?.run(call, bytes))
+    Ok(keyed?.run(call, bytes))
 }
 
 // Encrypts every whole block in place; answers how many bytes they have, or why not.
 pub fn sealed_frames_encrypt_blocks(cipher: u8, key: &[u8], bytes: &mut [u8]) -> u64
     ensures { BlocksMapped cipher key.now (forward_under key.now) bytes.old bytes.new result }
 {
-    code(map_blocks(cipher, key, Encryption, bytes))
+    code(map_blocks(KeyedCipher::of(cipher, key), Encryption, bytes))
 }
 
 // Decrypts every whole block in place; answers how many bytes they have, or why not.
 pub fn sealed_frames_decrypt_blocks(cipher: u8, key: &[u8], bytes: &mut [u8]) -> u64
     ensures { BlocksMapped cipher key.now (backward_under key.now) bytes.old bytes.new result }
 {
-    code(map_blocks(cipher, key, Decryption, bytes))
+    code(map_blocks(KeyedCipher::of(cipher, key), Decryption, bytes))
 }

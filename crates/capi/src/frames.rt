@@ -2,28 +2,25 @@
 ghost use Rattle.std.specs.Prelude.{◌≡◌};
 ghost use Rattle.frame.specs.Gives.{FrameSeals, FrameOpens};
 ghost use Rattle.capi.specs.Codes.{code_of};
-ghost use Rattle.capi.specs.Answers.{FrameAnswers, FrameSealed, FrameOpened, Called};
+ghost use Rattle.capi.specs.Answers.{FrameAnswers, FrameSealed, FrameOpened, Under, Called, key_of};
 
 use crate::calls::PairCall;
-use crate::choices::Choice;
+use crate::choices::{Choice, NotMade};
 use crate::codes::{Fault, code};
 use cipher::Cipher;
 use frame::FrameFault;
 use masking::Masking;
 use mode::Pair;
 
-// Makes a call over the pair that the numbers choose.
+// Makes a call over the pair that was chosen.
 fn framed<F: PairCall<Answer = Result<usize, FrameFault>> + Drop>(
-    cipher: u8,
-    masking: u8,
-    key: &[u8],
+    choice: Result<Choice<'_>, NotMade>,
     call: F,
     out: &mut [u8],
 ) -> Result<usize, Fault>
-    ensures { Called cipher masking key.now (λ w. FrameAnswers (F.gives call w out.old out.new) (code_of result)) (out.new ≡ out.old) (code_of result) }
+    ensures { Under choice.entry (key_of choice.entry) (λ w. FrameAnswers (F.gives call w out.old out.new) (code_of result)) (out.new ≡ out.old) (code_of result) }
 {
-    let choice = Choice::of(cipher, masking, key)?;
-    Ok(choice.run(call, out)?)
+    Ok(choice?.run(call, out)?)
 }
 
 // What is sealed into a frame.
@@ -79,7 +76,7 @@ pub fn sealed_frames_seal(
         clear,
         message,
     };
-    code(framed(cipher, masking, key, call, out))
+    code(framed(Choice::of(cipher, masking, key), call, out))
 }
 
 // What is opened as a frame.
@@ -106,5 +103,5 @@ impl<'a> PairCall for Opening<'a> {
 pub fn sealed_frames_open(cipher: u8, masking: u8, key: &[u8], frame: &[u8], out: &mut [u8]) -> u64
     ensures { Called cipher masking key.now (λ w. FrameOpened w frame.now out.old out.new result) (out.new ≡ out.old) result }
 {
-    code(framed(cipher, masking, key, Opening { frame }, out))
+    code(framed(Choice::of(cipher, masking, key), Opening { frame }, out))
 }

@@ -2,7 +2,7 @@
 ghost use Rattle.std.specs.Prelude.{◌≡◌, length};
 ghost use Rattle.mode.specs.Gives.{SealGives, OpenGives};
 ghost use Rattle.capi.specs.Codes.{code_of};
-ghost use Rattle.capi.specs.Answers.{ModeSealed, ModeOpened, Asks, Asked, Called};
+ghost use Rattle.capi.specs.Answers.{ModeSealed, ModeOpened, Asks, Asked, Under, Called, key_of};
 
 use crate::calls::PairCall;
 use crate::choices::{Choice, NotMade};
@@ -57,18 +57,16 @@ impl<'a> PairCall for Sealing<'a> {
     }
 }
 
-// Seals over the pair that the numbers choose, and writes the tag.
+// Seals over the pair that was chosen, and writes the tag.
 fn seal(
-    cipher: u8,
-    masking: u8,
-    key: &[u8],
+    choice: Result<Choice<'_>, NotMade>,
     request: Request,
     out: &mut [u8],
     tag: &mut [u8],
 ) -> Result<usize, Fault>
-    ensures { Called cipher masking key.now (λ w. Asked request.entry.mode (length request.entry.nonce.now) (length tag.old) (λ m. ModeSealed w m request.entry.nonce.now request.entry.header.now request.entry.bytes.now out.old out.new tag.old tag.new (code_of result)) ((out.new ≡ out.old) × (tag.new ≡ tag.old)) (code_of result)) ((out.new ≡ out.old) × (tag.new ≡ tag.old)) (code_of result) }
+    ensures { Under choice.entry (key_of choice.entry) (λ w. Asked request.entry.mode (length request.entry.nonce.now) (length tag.old) (λ m. ModeSealed w m request.entry.nonce.now request.entry.header.now request.entry.bytes.now out.old out.new tag.old tag.new (code_of result)) ((out.new ≡ out.old) × (tag.new ≡ tag.old)) (code_of result)) ((out.new ≡ out.old) × (tag.new ≡ tag.old)) (code_of result) }
 {
-    let choice = Choice::of(cipher, masking, key)?;
+    let choice = choice?;
     let mode = asked(request.mode, request.nonce, tag)?;
     let call = Sealing {
         mode,
@@ -101,7 +99,7 @@ pub fn sealed_frames_mode_seal(
         header,
         bytes: message,
     };
-    code(seal(cipher, masking, key, request, out, tag))
+    code(seal(Choice::of(cipher, masking, key), request, out, tag))
 }
 
 // What is opened.
@@ -135,18 +133,16 @@ impl<'a> PairCall for Opening<'a> {
     }
 }
 
-// Opens over the pair that the numbers choose.
+// Opens over the pair that was chosen.
 fn open(
-    cipher: u8,
-    masking: u8,
-    key: &[u8],
+    choice: Result<Choice<'_>, NotMade>,
     request: Request,
     tag: &[u8],
     out: &mut [u8],
 ) -> Result<usize, Fault>
-    ensures { Called cipher masking key.now (λ w. Asked request.entry.mode (length request.entry.nonce.now) (length tag.now) (λ m. ModeOpened w m request.entry.nonce.now request.entry.header.now request.entry.bytes.now tag.now out.old out.new (code_of result)) (out.new ≡ out.old) (code_of result)) (out.new ≡ out.old) (code_of result) }
+    ensures { Under choice.entry (key_of choice.entry) (λ w. Asked request.entry.mode (length request.entry.nonce.now) (length tag.now) (λ m. ModeOpened w m request.entry.nonce.now request.entry.header.now request.entry.bytes.now tag.now out.old out.new (code_of result)) (out.new ≡ out.old) (code_of result)) (out.new ≡ out.old) (code_of result) }
 {
-    let choice = Choice::of(cipher, masking, key)?;
+    let choice = choice?;
     let mode = asked(request.mode, request.nonce, tag)?;
     let call = Opening {
         mode,
@@ -179,5 +175,5 @@ pub fn sealed_frames_mode_open(
         header,
         bytes: sealed,
     };
-    code(open(cipher, masking, key, request, tag, out))
+    code(open(Choice::of(cipher, masking, key), request, tag, out))
 }

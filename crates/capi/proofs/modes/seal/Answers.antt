@@ -4,17 +4,14 @@ use Rattle.capi.proofs.modes.seal.Goals as goal
 
 pub returns : goal.returns
 returns c =
-    record {
-      choice = Ok c.in_ok-choice.choice;
-      chosen = c.in_ok-choice.ensures.choice;
+    rw c.in_ok-choice.was
+    (record {
+      asked = Ok c.in_ok-mode.mode;
+      asks = c.in_ok-mode.ensures;
       given = record {
-        asked = Ok c.in_ok-mode.mode;
-        asks = c.in_ok-mode.ensures;
-        given = record {
-          answer = Ok c.in_ok-block.block;
-          gives = search rules;
-          tag_is = fills c.in_ok-block.block c.args.tag.now c.store.new.bytes (search rules) c.store.ensures;
-          code_is = refl;
-        };
+        answer = Ok c.in_ok-block.block;
+        gives = search rules;
+        tag_is = fills c.in_ok-block.block c.args.tag.now c.store.new.bytes (search rules) c.store.ensures;
+        code_is = refl;
       };
-    }
+    })
