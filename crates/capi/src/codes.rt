@@ -50,7 +50,7 @@ const TOP_BIT: u64 = 0x8000_0000_0000_0000;
 fn refusal<R: Refusal>(refused: &R) -> u64
     ensures { result ≡ refusal (R.number_of refused.now) (R.place_of refused.now) }
 {
-    TOP_BIT + 256 * refused.place() as u64 + refused.number() as u64
+    TOP_BIT + 256 * u64::from(refused.place()) + u64::from(refused.number())
 }
 
 // The code of a call that is not made has why in its third byte.

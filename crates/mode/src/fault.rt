@@ -9,9 +9,9 @@ use std::fmt;
 #[derive(Clone, Copy, PartialEq, Eq, Debug)]
 pub enum ModeFault {
     // The output buffer is not of the message's length.
-    OutputLength,
+    OutputLength = 1,
     // No message seals to these bytes.
-    NotSealed,
+    NotSealed = 2,
 }
 
 impl Refusal for ModeFault {
@@ -24,10 +24,7 @@ impl Refusal for ModeFault {
     ghost reason_of = { mode_reason };
 
     fn number(&self) -> u8 {
-        match self {
-            ModeFault::OutputLength => 1,
-            ModeFault::NotSealed => 2,
-        }
+        *self as u8
     }
 
     fn place(&self) -> u8 {

@@ -51,7 +51,9 @@ struct Keyed<'a, C: Cipher, M: Masking> {
     ghost one: { delta_one ≡ delta_one_of (maps C.Cipher M.Masking pair.now) },
 }
 
+// Mode, nonce, input and output stay parameters, and the lengths a requires: a struct that held the output's borrow would need a clause on what it leaves there.
 impl<'a, C: Cipher, M: Masking> Keyed<'a, C, M> {
+    // A pair with its two blocks.
     #[tactic(auto, unfolding(crate::specs::Sealing::delta_zero_of, crate::specs::Sealing::delta_one_of))]
     fn of(pair: &'a Pair<C, M>) -> Keyed<'a, C, M>
         ensures { result.pair.now ≡ pair.now }
@@ -118,7 +120,7 @@ impl<'a, C: Cipher, M: Masking> Keyed<'a, C, M> {
             written: 0,
             mask: first,
         };
-        // By index: nothing is known of what a loop over chunks_exact_mut leaves in the output.
+        // By index: tried with chunks_exact_mut, but std says nothing of what such a loop leaves in the output.
         for i in 0..Cut::of(input.len()).before {
             let mask = self.pair.masking.step(sums.mask);
             let x = load(input, 16 * i);
@@ -185,6 +187,7 @@ impl<'a, C: Cipher, M: Masking> Keyed<'a, C, M> {
     }
 }
 
+// Each clause names the maps of the pair: they can't be the value of an impl Model, since a function has no code.
 impl<C: Cipher, M: Masking> Pair<C, M> {
     // A pair of the two. What the modes promise stands for every cipher and every masking that keep their laws.
     pub fn new(cipher: C, masking: M) -> Pair<C, M>
