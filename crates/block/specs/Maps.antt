@@ -6,6 +6,10 @@ use Rattle.std.proofs.Common.{sym, ap, ◌∙◌}
 abbrev pub IsBlock : ℕ → Type 0
 IsBlock x = x < 2 ^ 128
 
+-- what may be called with each block answers as the map f does
+abbrev pub Computes : (ℕ → ℕ → Type 0) → (ℕ → ℕ) → Type 0
+Computes answers f = (x y : ℕ) → IsBlock x → answers x y → y ≡ f x
+
 -- both maps take blocks to blocks, and each undoes the other for every block
 pub record Undo (there back : ℕ → ℕ) : Type 0 where
   pub there_fits : (x : ℕ) → IsBlock x → IsBlock (there x)

@@ -23,7 +23,7 @@ fn framed<F: PairCall<Answer = Result<usize, FrameFault>> + Drop>(
     Ok(choice?.run(call, out)?)
 }
 
-// What is sealed into a frame.
+// What is sealed into a frame. The mode is a byte, as in frame::seal.
 #[derive(Clone, Copy)]
 struct Sealing<'a> {
     sender: u8,

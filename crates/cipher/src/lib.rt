@@ -66,7 +66,7 @@ impl<C: Cipher> Cipher for Inverse<C> {
     }
 }
 
-// Encrypts a block and decrypts it again: the block, whatever the cipher.
+// Encrypts a block and decrypts it again: the block, whatever the cipher. The one over maskings says why there are two.
 #[tactic(auto, using(block::specs::Maps::undone))]
 pub fn there_and_back<C: Cipher>(cipher: &C, block: Block) -> Block
     ensures { result ≡ block }

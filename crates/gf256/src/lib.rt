@@ -30,7 +30,8 @@ pub fn restore(b: u8) -> u8
     ORIGINALS[b as usize]
 }
 
-// A byte times x: shifted left by one bit, with 0x1b added if a one was shifted out.
+// A byte times x: shifted left by one bit, with 0x1b added if a one was shifted out. Masking's doubling at this width would be a call of
+// three arguments on numbers of 128 bits, for this one line.
 pub fn times_x(a: u8) -> u8
     ensures { result ≡ times_x_of a }
 {

@@ -9,8 +9,7 @@ use task::{Offset, UnknownValveHead, ValveHead};
 pub struct Task {
     pub key: [u8; 16],
     pub valve_head: ValveHead,
-    pub hub_id: u8,
-    pub valve_id: u8,
+    pub ids: Ids,
     pub number: u64,
     pub offsets: Vec<Offset>,
 }
@@ -94,9 +93,9 @@ impl fmt::Display for Unread {
 
 // The hub's id and the valve head's.
 #[derive(Clone, Copy)]
-struct Ids {
-    hub: u8,
-    valve: u8,
+pub struct Ids {
+    pub hub: u8,
+    pub valve: u8,
 }
 
 // What one line says.
@@ -189,8 +188,7 @@ impl Draft {
         Ok(Task {
             key: key.ok_or(Reason::NoKey)?,
             valve_head: valve_head.ok_or(Reason::NoValveHead)?,
-            hub_id: ids.hub,
-            valve_id: ids.valve,
+            ids,
             number: number.ok_or(Reason::NoNumber)?,
             offsets,
         })

@@ -103,7 +103,8 @@ struct Talk<'a, C> {
 }
 
 impl<C: Cipher + Drop> Talk<'_, C> {
-    // The hub reserves a number, if it can; where it says why it cannot, the text before stands in front.
+    // The hub reserves a number, if it can; where it says why it cannot, the text before stands in front. No ticket is an answer here and below, and
+    // no error: the errors are those of printing.
     fn reserve(&mut self, before: &str) -> anyhow::Result<Option<Ticket>> {
         match self.hub.reserve() {
             Ok(ticket) => Ok(Some(ticket)),
@@ -237,21 +238,10 @@ pub fn exchange<C: Cipher + Drop>(
     task: &Task,
 ) -> anyhow::Result<()> {
     introduce(rt, name, task)?;
+    let ids = task.ids;
     let floor = task.number.saturating_sub(1);
-    let hub = Station::new(
-        Pair::new(hub, Doubling),
-        task.hub_id,
-        task.valve_id,
-        task.number,
-        0,
-    );
-    let valve = Station::new(
-        Pair::new(valve, Doubling),
-        task.valve_id,
-        task.hub_id,
-        1,
-        floor,
-    );
+    let hub = Station::new(Pair::new(hub, Doubling), ids.hub, ids.valve, task.number, 0);
+    let valve = Station::new(Pair::new(valve, Doubling), ids.valve, ids.hub, 1, floor);
     match (hub, valve) {
         (Ok(hub), Ok(valve)) => Talk {
             rt,

@@ -4,7 +4,7 @@ ghost use Rattle.layer.specs.declared.Layer.{Layer};
 
 use crate::Layer;
 
-// A reason to refuse. Each layer's own enum is one.
+// A reason to refuse. Each layer's own enum is one, and prints itself as its `Line`: Display can't be implemented for every refusal at once.
 pub trait Refusal {
     ghost number_of: { Self → ℕ };
 

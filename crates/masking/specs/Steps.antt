@@ -7,10 +7,6 @@ unfoldable pub times : (ℕ → ℕ) → ℕ → ℕ → ℕ
 times f zero x = x
 times f (suc n) x = f (times f n x)
 
--- what P allows of a block is what f makes of it
-abbrev pub Computes : (ℕ → ℕ → Type 0) → (ℕ → ℕ) → Type 0
-Computes P f = (x y : ℕ) → IsBlock x → P x y → y ≡ f x
-
 -- x after i steps, or after -i backs where i is negative
 abbrev pub Γ : (step back : ℕ → ℕ) → ℕ → ℤ → ℕ
 Γ step back x (pos n) = times step n x

@@ -3,10 +3,10 @@
 
 ghost use Rattle.std.specs.Prelude.{◌≡◌, ℕ, ◌+◌, ◌^◌, ◌<◌, [], ◌∷◌, slice_index};
 ghost use Rattle.block.specs.Double.{double, halve};
-ghost use Rattle.block.specs.Maps.{Undo, same, undo_same};
+ghost use Rattle.block.specs.Maps.{Computes, Undo, same, undo_same};
 ghost use Rattle.masking.specs.Doubling.{doubled, undoubled};
 ghost use Rattle.masking.specs.DoublingLaws.{doubling_undo};
-ghost use Rattle.masking.specs.Steps.{times, Computes, Γ, StepsAdd};
+ghost use Rattle.masking.specs.Steps.{times, Γ, StepsAdd};
 ghost use Rattle.masking.specs.Tower.{word3, word2, word1, word0, of_words, alpha, alpha_back, tower_step, tower_back};
 ghost use Rattle.masking.specs.TowerLaws.{tower_undo};
 
@@ -96,7 +96,7 @@ pub fn there_and_back<M: Masking>(masking: &M, block: Block) -> Block
     masking.back(masking.step(block))
 }
 
-// A block after so many turns of a map.
+// A block after so many turns of a map. The range counts turns, and no place in anything.
 fn turned<F: Fn(Block) -> Block>(turn: F, count: u64, block: Block) -> Block
     requires { F.IsAlwaysCallable turn }
     ensures { (f : ℕ → ℕ) → Computes (F.post turn) f → result ≡ times f count block }

@@ -4,13 +4,8 @@ use Rattle.mode.specs.declared.value.Mode.{Mode}
 use Rattle.mode.specs.declared.pair.Sums.{Sums}
 use Rattle.mode.specs.declared.pair.Body.{Body}
 use Rattle.block.specs.Cut.{before, block_count, through, sum_of}
-use Rattle.block.specs.Maps.{IsBlock}
 use Rattle.masking.specs.Steps.{times}
 use Rattle.mode.specs.Sealing.{Maps, gamma, sealing, masked, pad_of, body}
-
--- what may be called with each block answers as the map e does
-abbrev pub Computes : (ℕ → ℕ → Type 0) → (ℕ → ℕ) → Type 0
-Computes answers e = (x y : ℕ) → IsBlock x → answers x y → y ≡ e x
 
 -- the first n blocks are ciphered into the output through e, the rest of which is as it was; the sums are of what was read and written
 pub record BlocksDone (w : Maps) (e : ℕ → ℕ) (first n : ℕ) (input was out : List ℕ) (sums : Sums) : Type 0 where

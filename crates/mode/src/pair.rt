@@ -1,12 +1,13 @@
 // A cipher and a masking together, and what they seal and open.
 ghost use Rattle.std.specs.Prelude.{◌≡◌, ℕ, List, length, replicate, bit_xor};
 ghost use Rattle.block.specs.Cut.{before, last_of, zero_filled};
+ghost use Rattle.block.specs.Maps.{Computes};
 ghost use Rattle.masking.specs.Steps.{times};
 ghost use Rattle.mode.specs.Sealing.{delta_zero_of, delta_one_of, kappa as kappa_of, closing, header_tag_of, Seals};
 ghost use Rattle.mode.specs.Pairs.{maps};
 ghost use Rattle.mode.specs.Gives.{SealGives, BehindGives, OpenGives};
 ghost use Rattle.mode.specs.Stands.{Stands};
-ghost use Rattle.mode.specs.Body.{Computes, BlocksDone, BodyDone};
+ghost use Rattle.mode.specs.Body.{BlocksDone, BodyDone};
 
 use crate::fault::ModeFault;
 use crate::value::Mode;

@@ -96,7 +96,8 @@ fn all_zero(bytes: &[u8]) -> bool
     bytes.iter().all(|byte| *byte == 0)
 }
 
-// Flips one byte in each block of a string in turn, and notes whether what comes of it is refused.
+// Flips one byte in each block of a string in turn, and notes whether what comes of it is refused. A block goes by its number, since the last may
+// be short, and a borrow of one would not let the whole be opened.
 fn flip_each<F: FnMut(&[u8]) -> bool>(bytes: &mut [u8], tally: &mut Tally, mut refused: F)
     requires { F.IsAlwaysCallable refused }
 {
@@ -154,7 +155,7 @@ impl<'c, 'n, C: Cipher, M: Masking> Bench<'c, 'n, C, M> {
     }
 
     // The cases of one mode, with a header from the front of the bench's; answers the tag. Rooms are cut from arrays here and below: vectors would
-    // take the heap, and an error that never comes, through every function from here to main.
+    // take the heap, and an error of memory, through every function from here to main.
     fn run_mode(
         &self,
         mode: Mode,

@@ -52,6 +52,7 @@ fn sweep<C: Cipher, M: Masking>(bench: &Bench<'_, '_, C, M>) -> Tally {
 // One line for the pair of a cipher and a masking.
 fn report<C: Cipher, M: Masking + Drop>(
     rt: &impl Print,
+    layer: &str,
     cipher: &str,
     inner: &C,
     masking: &str,
@@ -63,15 +64,28 @@ fn report<C: Cipher, M: Masking + Drop>(
         calls: &calls,
     };
     let tally = sweep(&Bench::new(Pair::new(counting, under), &calls));
-    println!(rt; "{cipher} with {masking}: {tally}")?;
+    println!(rt; "{layer}{cipher} with {masking}: {tally}")?;
     Ok(tally)
 }
 
-// One cipher under each masking.
-fn under_maskings<C: Cipher>(rt: &impl Print, cipher: &str, inner: &C) -> io::Result<Tally> {
-    let mut tally = report(rt, cipher, inner, "doubling", Doubling)?;
-    tally.add(report(rt, cipher, inner, "tower", Tower)?);
-    tally.add(report(rt, cipher, inner, "idle", Idle)?);
+// One cipher under each masking, with the text before its name that says which layer is over it.
+fn under_maskings<C: Cipher>(
+    rt: &impl Print,
+    layer: &str,
+    cipher: &str,
+    inner: &C,
+) -> io::Result<Tally> {
+    let mut tally = report(rt, layer, cipher, inner, "doubling", Doubling)?;
+    tally.add(report(rt, layer, cipher, inner, "tower", Tower)?);
+    tally.add(report(rt, layer, cipher, inner, "idle", Idle)?);
+    Ok(tally)
+}
+
+// One cipher, and then its inverse.
+fn both_ways<C: Cipher + Drop>(rt: &impl Print, cipher: &str, inner: C) -> io::Result<Tally> {
+    let mut tally = under_maskings(rt, "", cipher, &inner)?;
+    let inverse = Inverse { inner };
+    tally.add(under_maskings(rt, "inverse of ", cipher, &inverse)?);
     Ok(tally)
 }
 
@@ -93,17 +107,9 @@ fn show_calls(rt: &impl Print) -> io::Result<Tally> {
 }
 
 fn main(rt: HostRuntime) -> io::Result<()> {
-    let mut total = under_maskings(&rt, "identity", &Identity)?;
-    let inverse = Inverse { inner: Identity };
-    total.add(under_maskings(&rt, "inverse of identity", &inverse)?);
-    let aes = Aes128::new(KEY);
-    total.add(under_maskings(&rt, "AES", &aes)?);
-    let inverse = Inverse { inner: aes };
-    total.add(under_maskings(&rt, "inverse of AES", &inverse)?);
-    let speck = Speck::new(KEY);
-    total.add(under_maskings(&rt, "Speck", &speck)?);
-    let inverse = Inverse { inner: speck };
-    total.add(under_maskings(&rt, "inverse of Speck", &inverse)?);
+    let mut total = both_ways(&rt, "identity", Identity)?;
+    total.add(both_ways(&rt, "AES", Aes128::new(KEY))?);
+    total.add(both_ways(&rt, "Speck", Speck::new(KEY))?);
     total.add(show_calls(&rt)?);
     println!(rt; "all: {total}")
 }

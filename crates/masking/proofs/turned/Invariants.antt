@@ -1,6 +1,7 @@
 use Rattle.std.proofs.Common.{◌≡◌, ℕ}
 use Rattle.block.specs.Maps.{IsBlock}
-use Rattle.masking.specs.Steps.{times, Computes}
+use Rattle.block.specs.Maps.{Computes}
+use Rattle.masking.specs.Steps.{times}
 use Rattle.masking.proofs.turned.Given as goal
 
 abbrev pub invariant-loop : goal.invariant-loop

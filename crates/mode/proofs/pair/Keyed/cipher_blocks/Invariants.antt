@@ -1,6 +1,7 @@
 use Rattle.std.proofs.Common.{ℕ}
 use Rattle.mode.specs.Pairs.{maps}
-use Rattle.mode.specs.Body.{Computes, BlocksDone}
+use Rattle.block.specs.Maps.{Computes}
+use Rattle.mode.specs.Body.{BlocksDone}
 use Rattle.mode.proofs.pair.Keyed.cipher_blocks.Given as goal
 
 abbrev pub invariant-loop-i : goal.invariant-loop-i
