@@ -3,6 +3,8 @@
 
 mod ciphers;
 mod maskings;
+mod settings;
 
 pub use ciphers::{AnyCipher, Plain};
 pub use maskings::AnyMasking;
+pub use settings::{CipherSetting, MaskingSetting, PlainSetting, UnknownMasking};
