@@ -1,15 +1,15 @@
 -- What a line of a script says: nothing, a setting or exactly one call, or the reason why it is not read.
 use Rattle.std.specs.Prelude.{◌≡◌, ℕ, cond, List, [], ◌∷◌, Ok, Err, codes, Result, ◌==◌, slice_index}
 use Rattle.std.specs.Str.{bytes_eq}
+use Rattle.suite.specs.declared.settings.CipherSetting.{CipherSetting}
+use Rattle.suite.specs.declared.settings.CipherSetting.TheVariants.{Plain, Inverse}
+use Rattle.suite.specs.declared.settings.MaskingSetting.{MaskingSetting}
+use Rattle.suite.specs.declared.settings.MaskingSetting.TheVariants.{Doubling, Tower}
+use Rattle.suite.specs.declared.settings.PlainSetting.{PlainSetting}
+use Rattle.suite.specs.declared.settings.PlainSetting.TheVariants.{Identity, Aes, Speck}
 use Rattle.script.specs.declared.call.Call.{Call}
 use Rattle.script.specs.declared.call.Line.{Line}
 use Rattle.script.specs.declared.call.Line.TheVariants.{Nothing, Cipher, Masking, Call as OneCall}
-use Rattle.script.specs.declared.call.CipherSetting.{CipherSetting}
-use Rattle.script.specs.declared.call.CipherSetting.TheVariants.{Plain, Inverse}
-use Rattle.script.specs.declared.call.MaskingSetting.{MaskingSetting}
-use Rattle.script.specs.declared.call.MaskingSetting.TheVariants.{Doubling, Tower}
-use Rattle.script.specs.declared.call.PlainSetting.{PlainSetting}
-use Rattle.script.specs.declared.call.PlainSetting.TheVariants.{Identity, Aes, Speck}
 use Rattle.script.specs.declared.reason.Reason.{Reason}
 use Rattle.script.specs.declared.reason.Reason.TheVariants.{WordMissing, NotACipher, NotAMasking}
 use Rattle.script.specs.Said.{Said, shapes, call_of, said, line_for, Writable}

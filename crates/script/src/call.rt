@@ -1,25 +1,5 @@
 // What a line of a script says.
-
-// A cipher as a script names it.
-#[derive(Clone, Copy)]
-pub enum PlainSetting {
-    Identity,
-    Aes([u8; 16]),
-    Speck([u8; 16]),
-}
-
-// That cipher, or its inverse.
-#[derive(Clone, Copy)]
-pub enum CipherSetting {
-    Plain(PlainSetting),
-    Inverse(PlainSetting),
-}
-
-#[derive(Clone, Copy)]
-pub enum MaskingSetting {
-    Doubling,
-    Tower,
-}
+use suite::{CipherSetting, MaskingSetting};
 
 // A call, with the station's name, the ticket's label and what else it takes. Space is the length of the output buffer.
 #[derive(Drop)]

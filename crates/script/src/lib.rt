@@ -11,8 +11,9 @@ mod value;
 mod writing;
 
 pub use answer::{Answer, HexText, NotReadLine, OrDash, OutLine, PartsLine, StateLine};
-pub use call::{Call, CipherSetting, Line, MaskingSetting, PlainSetting};
+pub use call::{Call, Line};
 pub use reading::read;
 pub use reason::{Reason, Unread};
+pub use suite::{CipherSetting, MaskingSetting, PlainSetting};
 pub use tally::Tally;
 pub use writing::{hex_text, write};

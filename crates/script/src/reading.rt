@@ -2,15 +2,16 @@
 ghost use Rattle.std.specs.Prelude.{◌≡◌, ℕ, List, [], ◌∷◌, IfOk, codes};
 ghost use Rattle.script.specs.Calls.{Takes, Reads};
 ghost use Rattle.script.specs.Said.{call_of, said};
-ghost use Rattle.script.specs.Lines.{last_key_of, plain_of, cipher_of, masking_by_name, masking_of, words_meaning, line_meaning, meaning};
+ghost use Rattle.script.specs.Lines.{last_key_of, plain_of, cipher_of, masking_of, words_meaning, line_meaning, meaning};
 ghost use Rattle.script.specs.Results.{Gives};
 ghost use Rattle.script.specs.Values.{values_of, name as name_field, text as text_value};
 ghost use Rattle.script.specs.Words.{words_of};
 
-use crate::call::{Call, CipherSetting, Line, MaskingSetting, PlainSetting};
+use crate::call::{Call, Line};
 use crate::cursor::Cursor;
 use crate::reason::{Reason, Unread};
 use std::alloc::Global;
+use suite::{CipherSetting, MaskingSetting, PlainSetting};
 
 // A key, which is the last word.
 fn last_key(heap: Global, words: &mut Cursor<'_>) -> Result<[u8; 16], Unread>
@@ -49,22 +50,11 @@ fn cipher(heap: Global, words: &mut Cursor<'_>) -> Result<CipherSetting, Unread>
     }
 }
 
-// The masking that a word names.
-fn masking_named(word: &str) -> Result<MaskingSetting, Reason>
-    ensures { result ≡ masking_by_name word.now }
-{
-    match word {
-        "doubling" => Ok(MaskingSetting::Doubling),
-        "tower" => Ok(MaskingSetting::Tower),
-        _ => Err(Reason::NotAMasking),
-    }
-}
-
+// The masking that a word names, which is the last one.
 fn masking(words: &mut Cursor<'_>) -> Result<MaskingSetting, Unread>
     ensures { Gives (λ m. m) (masking_of words.old) result }
 {
-    let word = words.word()?;
-    let masking = masking_named(word)?;
+    let masking = words.word()?.parse()?;
     words.end()?;
     Ok(masking)
 }

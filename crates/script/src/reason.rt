@@ -1,10 +1,12 @@
 // Why a line is not read.
 ghost use Rattle.std.specs.Prelude.{◌≡◌, Some};
 ghost use Rattle.script.specs.Reasons.{text_of};
+ghost use Rattle.script.specs.declared.reason.Reason.TheVariants.{NotAMasking};
 ghost use Rattle.script.specs.declared.reason.Unread.TheVariants.{Because, Memory};
 
 use std::alloc::AllocError;
 use std::fmt;
+use suite::UnknownMasking;
 
 #[derive(Clone, Copy)]
 pub enum Reason {
@@ -71,6 +73,14 @@ impl From<Reason> for Unread {
 
     fn from(reason: Reason) -> Unread {
         Unread::Because(reason)
+    }
+}
+
+impl From<UnknownMasking> for Unread {
+    ghost from_gives = { λ _ r. r ≡ Because NotAMasking };
+
+    fn from(_: UnknownMasking) -> Unread {
+        Unread::Because(Reason::NotAMasking)
     }
 }
 

@@ -4,9 +4,9 @@ use Rattle.std.specs.BTreeMap.{btree_map_len}
 use Rattle.std.specs.declared.alloc.Global.{Global}
 use Rattle.script.specs.declared.tally.Tally.{Tally}
 use Rattle.session.specs.Counts.{Zero, Accepts, Refuses, Passes}
-use Rattle.script.specs.declared.call.CipherSetting.TheVariants.{Plain}
-use Rattle.script.specs.declared.call.MaskingSetting.TheVariants.{Doubling}
-use Rattle.script.specs.declared.call.PlainSetting.TheVariants.{Identity}
+use Rattle.suite.specs.declared.settings.CipherSetting.TheVariants.{Plain}
+use Rattle.suite.specs.declared.settings.MaskingSetting.TheVariants.{Doubling}
+use Rattle.suite.specs.declared.settings.PlainSetting.TheVariants.{Identity}
 use Rattle.session.specs.declared.Session.{Session}
 use Rattle.session.specs.declared.stations.Stations.{Stations}
 use Rattle.session.specs.Replies.{lined}

@@ -1,4 +1,3 @@
 pub mod Counting
 pub mod Counts
 pub mod Replies
-pub mod Settings

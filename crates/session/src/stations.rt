@@ -1,8 +1,6 @@
 // Named stations, the tickets that they handed out, and the calls on them.
-ghost use Rattle.std.specs.Prelude.{◌≡◌, OnOk, IsSome};
+ghost use Rattle.std.specs.Prelude.{OnOk, IsSome};
 ghost use Rattle.std.specs.BTreeMap.{get_by_text};
-ghost use Rattle.suite.specs.Ciphers.{forward_of, backward_of};
-ghost use Rattle.session.specs.Settings.{forward_for, backward_for, plain_forward, plain_backward};
 ghost use Rattle.session.specs.Counting.{NoStations};
 
 use crate::replies::{Halt, Reply};
@@ -60,37 +58,6 @@ pub struct Stations {
     members: BTreeMap<String, Member>,
 }
 
-// The cipher that a setting names. From can't say it, nor the next one: both types are other crates'.
-fn chosen(setting: CipherSetting) -> AnyCipher
-    ensures forward { forward_of result ≡ forward_for setting }
-    ensures backward { backward_of result ≡ backward_for setting }
-{
-    match setting {
-        CipherSetting::Plain(plain) => named(plain),
-        CipherSetting::Inverse(plain) => named(plain).inverse(),
-    }
-}
-
-// The cipher that a name and its key stand for.
-fn named(plain: PlainSetting) -> AnyCipher
-    ensures forward { forward_of result ≡ plain_forward plain }
-    ensures backward { backward_of result ≡ plain_backward plain }
-{
-    match plain {
-        PlainSetting::Identity => AnyCipher::identity(),
-        PlainSetting::Aes(key) => AnyCipher::aes(key),
-        PlainSetting::Speck(key) => AnyCipher::speck(key),
-    }
-}
-
-// The masking that a setting names.
-fn masking(setting: MaskingSetting) -> AnyMasking {
-    match setting {
-        MaskingSetting::Doubling => AnyMasking::Doubling,
-        MaskingSetting::Tower => AnyMasking::Tower,
-    }
-}
-
 // The parts of a frame.
 fn parts(frame: &[u8]) -> Result<PartsLine<'_>, Halt> {
     let FrameParts {
@@ -130,7 +97,7 @@ impl Stations {
         start: u64,
         floor: u64,
     ) -> Result<Answer, Halt> {
-        let pair = Pair::new(chosen(self.cipher), masking(self.masking));
+        let pair = Pair::new(AnyCipher::from(self.cipher), self.masking.into());
         let name = String::from_str(heap, name)?;
         let Entry::Vacant(place) = self.members.entry(name)? else {
             return Err(Halt::from(Reason::UsedName));
