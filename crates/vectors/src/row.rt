@@ -4,7 +4,7 @@ use mode::Pair;
 use std::alloc::{AllocError, Global};
 use std::fmt;
 use std::str::{FromStr, SplitWhitespace};
-use suite::{AnyCipher, AnyMasking};
+use suite::{AnyCipher, AnyMasking, MaskingSetting, UnknownMasking};
 
 // Why a line is not a row.
 #[derive(Clone, Copy)]
@@ -24,6 +24,12 @@ impl From<AllocError> for Unread {
     }
 }
 
+impl From<UnknownMasking> for Unread {
+    fn from(_: UnknownMasking) -> Unread {
+        Unread::NotAMasking
+    }
+}
+
 impl fmt::Display for Unread {
     fn fmt<W: fmt::Write>(&self, f: &mut fmt::Formatter<W>) -> fmt::Result {
         f.write_str(match self {
@@ -40,7 +46,7 @@ impl fmt::Display for Unread {
     }
 }
 
-// The ciphers that rows name.
+// The ciphers that rows name. They are no settings of suite: the key that those hold stands in a line above the row.
 #[derive(Clone, Copy)]
 pub enum CipherName {
     Identity,
@@ -90,48 +96,11 @@ impl CipherName {
     }
 }
 
-// The maskings that rows name.
-#[derive(Clone, Copy)]
-pub enum MaskingName {
-    Doubling,
-    Tower,
-}
-
-impl FromStr for MaskingName {
-    type Err = Unread;
-
-    fn from_str(word: &str) -> Result<MaskingName, Unread> {
-        match word {
-            "doubling" => Ok(MaskingName::Doubling),
-            "tower" => Ok(MaskingName::Tower),
-            _ => Err(Unread::NotAMasking),
-        }
-    }
-}
-
-impl fmt::Display for MaskingName {
-    fn fmt<W: fmt::Write>(&self, f: &mut fmt::Formatter<W>) -> fmt::Result {
-        f.write_str(match self {
-            MaskingName::Doubling => "doubling",
-            MaskingName::Tower => "tower",
-        })
-    }
-}
-
-impl From<MaskingName> for AnyMasking {
-    fn from(name: MaskingName) -> AnyMasking {
-        match name {
-            MaskingName::Doubling => AnyMasking::Doubling,
-            MaskingName::Tower => AnyMasking::Tower,
-        }
-    }
-}
-
 // The cipher and the masking that a row names.
 #[derive(Clone, Copy)]
 pub struct PairName {
     pub cipher: CipherName,
-    pub masking: MaskingName,
+    pub masking: MaskingSetting,
 }
 
 impl fmt::Display for PairName {
@@ -143,7 +112,7 @@ impl fmt::Display for PairName {
 impl PairName {
     // The two, under a key.
     pub fn under(self, key: [u8; 16]) -> Pair<AnyCipher, AnyMasking> {
-        Pair::new(self.cipher.under(key), AnyMasking::from(self.masking))
+        Pair::new(self.cipher.under(key), self.masking.into())
     }
 }
 
