@@ -34,7 +34,7 @@ fn number(bytes: &[u8]) -> u64
 {
     let mut all = 0;
     for byte in bytes {
-        all = 256 * all + u64::from(*byte);
+        all = 256 * all + *byte as u64;
     }
     all
 }

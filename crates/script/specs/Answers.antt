@@ -1,13 +1,9 @@
 -- The line that an answer is printed as.
 use Rattle.std.specs.Prelude.{ℕ, List, ◌++◌, Some, None, codes, decimal, Option}
+use Rattle.std.specs.Fmt.{◌++?◌}
 use Rattle.layer.specs.Layers.{name_of}
 use Rattle.script.specs.declared.answer.StateLine.{StateLine}
-use Rattle.script.specs.declared.answer.PartsLine.{PartsLine}
-use Rattle.script.specs.declared.answer.OutLine.{OutLine}
-use Rattle.script.specs.declared.answer.NotReadLine.{NotReadLine}
 use Rattle.script.specs.declared.answer.Answer.{Answer}
-use Rattle.script.specs.Hex.{hex_text_of}
-use Rattle.script.specs.Reasons.{text_of}
 use Rattle.script.specs.declared.answer.Answer.TheVariants.{Made, Ticket, GivenUp, Sealed, Opened, Refused}
 
 abbrev pub answer_line : Answer → List ℕ
@@ -27,12 +23,18 @@ abbrev pub state_line : StateLine → List ℕ
 state_line s =
     codes "next " ++ (decimal s.next ++ (codes " out " ++ (or_dash s.out.0 ++ (codes " highest " ++ (decimal s.highest ++ (codes " reserved " ++ (decimal s.reserved ++ (codes " sealed " ++ (decimal s.sealed ++ (codes " written-off " ++ decimal s.written_off))))))))))
 
-abbrev pub parts_line : PartsLine → List ℕ
-parts_line p =
-    codes "clear " ++ (decimal p.clear_at ++ (codes " " ++ (hex_text_of p.clear.0.now ++ (codes " sealed " ++ (decimal p.sealed_at ++ (codes " " ++ (hex_text_of p.sealed.0.now ++ (codes " tag " ++ (decimal p.tag_at ++ (codes " " ++ hex_text_of p.tag.0.now))))))))))
+-- of a text that is printed as nothing known, nothing is known of the line
+abbrev pub parts_line : ℕ → Option (List ℕ) → ℕ → Option (List ℕ) → ℕ → Option (List ℕ) → Option (List ℕ)
+parts_line clear_at clear sealed_at sealed tag_at tag =
+    Some (codes "clear " ++ (decimal clear_at ++ codes " "))
+    ++? clear
+    ++? Some (codes " sealed " ++ (decimal sealed_at ++ codes " "))
+    ++? sealed
+    ++? Some (codes " tag " ++ (decimal tag_at ++ codes " "))
+    ++? tag
 
-abbrev pub out_line : OutLine → List ℕ
-out_line o = codes "out " ++ hex_text_of o.0.0.now
+abbrev pub out_line : Option (List ℕ) → Option (List ℕ)
+out_line text = Some (codes "out ") ++? text
 
-abbrev pub not_read_line : NotReadLine → List ℕ
-not_read_line n = codes "line " ++ (decimal n.line ++ (codes ": " ++ text_of n.reason))
+abbrev pub not_read_line : ℕ → Option (List ℕ) → Option (List ℕ)
+not_read_line line reason = Some (codes "line " ++ (decimal line ++ codes ": ")) ++? reason

@@ -3,7 +3,6 @@ ghost use Rattle.std.specs.Prelude.{Some};
 ghost use Rattle.script.specs.Hex.{hex_text_of};
 ghost use Rattle.script.specs.Answers.{answer_line, or_dash, not_read_line, out_line, parts_line, state_line};
 
-use crate::reason::Reason;
 use hexadecimal::Digits;
 use layer::Layer;
 use std::fmt;
@@ -98,19 +97,19 @@ impl<'a> fmt::Display for HexText<'a> {
     }
 }
 
-// What a call for the parts of a frame answers: the place and the bytes of each.
+// What a call for the parts of a frame answers: the place and the hexadecimal text of each.
 #[derive(Clone, Copy)]
-pub struct PartsLine<'a> {
+pub struct PartsLine<T> {
     pub clear_at: usize,
-    pub clear: HexText<'a>,
+    pub clear: T,
     pub sealed_at: usize,
-    pub sealed: HexText<'a>,
+    pub sealed: T,
     pub tag_at: usize,
-    pub tag: HexText<'a>,
+    pub tag: T,
 }
 
-impl<'a> fmt::Display for PartsLine<'a> {
-    ghost output = { λ p. Some (parts_line p) };
+impl<T: fmt::Display> fmt::Display for PartsLine<T> {
+    ghost output = { λ p. parts_line p.clear_at (T.output p.clear) p.sealed_at (T.output p.sealed) p.tag_at (T.output p.tag) };
 
     fn fmt<W: fmt::Write>(&self, f: &mut fmt::Formatter<W>) -> fmt::Result {
         let PartsLine {
@@ -128,12 +127,12 @@ impl<'a> fmt::Display for PartsLine<'a> {
     }
 }
 
-// The output buffer.
+// The output buffer, as hexadecimal text.
 #[derive(Clone, Copy)]
-pub struct OutLine<'a>(pub HexText<'a>);
+pub struct OutLine<T>(pub T);
 
-impl<'a> fmt::Display for OutLine<'a> {
-    ghost output = { λ o. Some (out_line o) };
+impl<T: fmt::Display> fmt::Display for OutLine<T> {
+    ghost output = { λ o. out_line (T.output o.0) };
 
     fn fmt<W: fmt::Write>(&self, f: &mut fmt::Formatter<W>) -> fmt::Result {
         let OutLine(bytes) = self;
@@ -143,13 +142,13 @@ impl<'a> fmt::Display for OutLine<'a> {
 
 // The number of a line that is not read, and why.
 #[derive(Clone, Copy)]
-pub struct NotReadLine {
+pub struct NotReadLine<T> {
     pub line: u64,
-    pub reason: Reason,
+    pub reason: T,
 }
 
-impl fmt::Display for NotReadLine {
-    ghost output = { λ n. Some (not_read_line n) };
+impl<T: fmt::Display> fmt::Display for NotReadLine<T> {
+    ghost output = { λ n. not_read_line n.line (T.output n.reason) };
 
     fn fmt<W: fmt::Write>(&self, f: &mut fmt::Formatter<W>) -> fmt::Result {
         let NotReadLine { line, reason } = self;

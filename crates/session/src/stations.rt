@@ -59,7 +59,7 @@ pub struct Stations {
 }
 
 // The parts of a frame.
-fn parts(frame: &[u8]) -> Result<PartsLine<'_>, Halt> {
+fn parts(frame: &[u8]) -> Result<PartsLine<HexText<'_>>, Halt> {
     let FrameParts {
         clear,
         sealed,
