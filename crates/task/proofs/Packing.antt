@@ -1,6 +1,8 @@
 -- Records written and read byte by byte, and one more record behind others.
-use Rattle.std.proofs.Common.{◌≡◌, ℕ, suc, ◌+◌, ◌*◌, ◌/◌, ◌%◌, ◌<◌, List, [], ◌∷◌, ◌++◌, length, get_or, take, drop, sym, refl, ap, ◌∙◌, ap₂, append_assoc, div-one, arith, drop-cons, take-add}
+use Rattle.std.proofs.Common.{◌≡◌, ℕ, suc, ◌+◌, ◌*◌, ◌/◌, ◌%◌, ◌<◌, List, [], ◌∷◌, ◌++◌, length, get_or, take, drop, sym, refl, ap, ◌∙◌, ap₂, append_assoc, div-one, arith, drop-cons, take-add, ℤ, w16, w8, Fits, SFits, to_z, of_z}
 use Rattle.std.proofs.lemmas.List.{append-nil, take_more, drop_all}
+use Rattle.std.proofs.lemmas.Int.{of_z-to_z, to_z-of_z}
+pub use borrow.Author.Rules.{elem_Fits}
 use Rattle.std.specs.Simd.{first_chunks}
 use Rattle.block.specs.Bytes.{bytes_of}
 use Rattle.block.specs.Bytes.Bytes.{none, more}
@@ -8,10 +10,10 @@ use Rattle.block.specs.BytesLaws.{bytes_read}
 use Rattle.task.specs.declared.record.Offset.{Offset}
 use Rattle.task.specs.Records.{record_of, packed}
 
-pub written : (s h : ℕ) (xs ys : List ℕ) → xs ≡ s / 16777216 % 256 ∷ s / 65536 % 256 ∷ s / 256 % 256 ∷ s % 256 ∷ [] → ys ≡ h / 256 % 256 ∷ h % 256 ∷ []
-    → get_or xs 0 0 ∷ get_or xs 1 0 ∷ get_or xs 2 0 ∷ get_or xs 3 0 ∷ get_or ys 0 0 ∷ get_or ys 1 0 ∷ [] ≡ bytes_of 4 s ++ bytes_of 2 h
+pub written : (s : ℕ) (z : ℤ) → SFits w16 z → bytes_of 4 s ++ bytes_of 2 (of_z w16 z)
+    ≡ s / 16777216 % 256 ∷ s / 65536 % 256 ∷ s / 256 % 256 ∷ s % 256 ∷ of_z w16 (to_z w16 (of_z w16 z)) / 256 % 256 ∷ of_z w16 (to_z w16 (of_z w16 z)) % 256 ∷ []
 unfolding bytes_of
-written s h xs ys e f = rw (e, f) (simp div-one)
+written s z fits = rw (to_z-of_z w16 z fits) (simp div-one)
 
 -- a list of six, item by item
 six : (bs : List ℕ) → length bs ≡ 6 → bs ≡ get_or bs 0 0 ∷ get_or bs 1 0 ∷ get_or bs 2 0 ∷ get_or bs 3 0 ∷ get_or bs 4 0 ∷ get_or bs 5 0 ∷ []
@@ -31,10 +33,16 @@ four a b c d ha hb hc hd = ap (bytes_of 4) (omega arith) ∙ bytes_read 0 (a ∷
 two : (a b : ℕ) → a < 256 → b < 256 → bytes_of 2 (a * 256 + b) ≡ a ∷ b ∷ []
 two a b ha hb = ap (bytes_of 2) (omega arith) ∙ bytes_read 0 (a ∷ b ∷ []) (more ha (more hb none))
 
-pub read : (bs : List ℕ) → length bs ≡ 6 → ((i : ℕ) → get_or bs i 0 < 256)
-    → bytes_of 4 (get_or bs 0 0 * 16777216 + get_or bs 1 0 * 65536 + get_or bs 2 0 * 256 + get_or bs 3 0) ++ bytes_of 2 (get_or bs 4 0 * 256 + get_or bs 5 0) ≡ bs
+-- the offset read from six bytes has them as its record; found by the read of the last byte
+pub read : (bs : List ℕ) → length bs ≡ 6 → ((i : ℕ) → Fits w8 (get_or bs i 0)) → (get_or bs 5 0 ≡ get_or bs 5 0)
+    × (bytes_of 4 (get_or bs 0 0 * 16777216 + get_or bs 1 0 * 65536 + get_or bs 2 0 * 256 + get_or bs 3 0) ++ bytes_of 2 (of_z w16 (to_z w16 (of_z w16 (to_z w16 (get_or bs 4 0 * 256 + get_or bs 5 0))))) ≡ bs)
 read bs long fit =
-    ap₂ (λ (u v : List ℕ). u ++ v) (four _ _ _ _ (fit 0) (fit 1) (fit 2) (fit 3)) (two _ _ (fit 4) (fit 5)) ∙ sym (six bs long)
+    let small : (i : ℕ) → get_or bs i 0 < 256 = λ i. omega (arith, fit i) in
+    let same = of_z-to_z w16 (get_or bs 4 0 * 256 + get_or bs 5 0) (omega (arith, small 4, small 5)) in
+    (refl, rw (same, same) (ap₂ (λ (u v : List ℕ). u ++ v) (four _ _ _ _ (small 0) (small 1) (small 2) (small 3)) (two _ _ (small 4) (small 5)) ∙ sym (six bs long)))
+
+-- that, with the bounds of an array's bytes
+pub ruleset reading = (read, elem_Fits)
 
 pub packed-append : (xs ys : List Offset) → packed (xs ++ ys) ≡ packed xs ++ packed ys
 unfolding packed
@@ -56,8 +64,7 @@ unpacked (o ∷ os) bs each =
     let n : 6 + 6 * length os ≡ 6 * suc (length os) = omega arith in
     ap₂ (λ (u v : List ℕ). u ++ v) first rest ∙ sym (take-add 6 (6 * length os) bs) ∙ ap (λ (k : ℕ). take k bs) n
 
--- the next record, behind those of the offsets before
-pub packed_next : (os : List Offset) (d : Offset) (i : ℕ) (old new piece : List ℕ) → i < length os → old ≡ packed (take i os) → new ≡ old ++ piece
-    → piece ≡ record_of (get_or os i d) → new ≡ packed (take (i + 1) os)
-packed_next os d i old new piece h p e r =
-    e ∙ ap₂ (λ (u v : List ℕ). u ++ v) p r ∙ sym (packed_more (take i os) (get_or os i d)) ∙ ap packed (sym (take_more os i d h))
+-- the next record behind those of the offsets before, found by the read of its offset
+pub packed_next : (os : List Offset) (i : ℕ) (d : Offset) → i < length os
+    → (get_or os i d ≡ get_or os i d) × (packed (take (i + 1) os) ≡ packed (take i os) ++ record_of (get_or os i d))
+packed_next os i d h = (refl, ap packed (take_more os i d h) ∙ packed_more (take i os) (get_or os i d))

@@ -15,6 +15,7 @@ pub struct Offset {
 impl From<Offset> for [u8; 6] {
     ghost from_gives = { λ offset bytes. bytes ≡ record_of offset };
 
+    #[tactic(auto, using(crate::proofs::Packing::written))]
     fn from(offset: Offset) -> [u8; 6] {
         let [a, b, c, d] = offset.serial.to_be_bytes();
         let [e, f] = offset.hundredths.to_be_bytes();
@@ -26,6 +27,7 @@ impl From<Offset> for [u8; 6] {
 impl From<[u8; 6]> for Offset {
     ghost from_gives = { λ bytes offset. record_of offset ≡ bytes };
 
+    #[tactic(auto, using(crate::proofs::Packing::reading))]
     fn from(bytes: [u8; 6]) -> Offset {
         let [a, b, c, d, e, f] = bytes;
         Offset {
@@ -41,6 +43,7 @@ impl Offset {
 }
 
 // The records of the offsets, one behind the other.
+#[tactic(auto, using(crate::proofs::Packing::packed_next), unfolding(crate::specs::Records::packed))]
 pub fn pack(heap: Global, offsets: &[Offset]) -> Result<Vec<u8>, AllocError>
     ensures { IfOk result (λ v. v.items ≡ packed offsets.now) }
 {
@@ -52,6 +55,7 @@ pub fn pack(heap: Global, offsets: &[Offset]) -> Result<Vec<u8>, AllocError>
 }
 
 // The offsets of the whole records in some bytes; a rest shorter than a record is left out.
+#[tactic(auto, using(crate::proofs::Packing::unpacked))]
 pub fn unpack(heap: Global, bytes: &[u8]) -> Result<Vec<Offset>, AllocError>
     ensures { IfOk result (λ v. packed v.items ≡ take (6 * (length bytes.now / 6)) bytes.now) }
 {
