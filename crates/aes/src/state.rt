@@ -53,7 +53,7 @@ impl From<State> for Block {
     }
 }
 
-// Each byte of a row through a map.
+// Each byte of a row through a map. Tried with the array's map, whose call asks what the search gives up on; rows are written out below, too.
 fn over_row<F: Fn(u8) -> u8>(map: &F, row: Row) -> Row
     requires { F.IsAlwaysCallable map.now }
     ensures { (f : ℕ → ℕ) → Computes (F.post map.now) f → result ≡ over_row f row }

@@ -97,6 +97,7 @@ impl Refusal for FrameFault {
 
     ghost reason_of = { frame_reason };
 
+    // By a match: cases that hold a field or the mode's fault can have no discriminant.
     fn number(&self) -> u8 {
         match self {
             FrameFault::UnknownMode => 7,

@@ -27,7 +27,7 @@ pub struct FrameParts<'a> {
     pub tag: Piece<'a>,
 }
 
-// The number that at most eight bytes spell.
+// The number that at most eight bytes spell. Fields have 1, 2, 4, 6 and 7 bytes, which no from_be_bytes takes.
 fn number(bytes: &[u8]) -> u64
     requires { length bytes.now ≤ 8 }
     ensures { result ≡ number_of bytes.now }

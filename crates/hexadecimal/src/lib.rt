@@ -7,7 +7,7 @@ ghost use Rattle.hexadecimal.specs.Hex.{digit_of, byte_in, Spells, spelled as sp
 use std::alloc::{AllocError, Global};
 use std::fmt;
 
-// The value of a hexadecimal digit, small letter or capital.
+// The value of a hexadecimal digit, small letter or capital. By ranges: a character's to_digit answers 32 bits, which would have to be narrowed.
 pub fn digit(character: u8) -> Option<u8>
     ensures { result ≡ digit_of character }
 {
@@ -27,7 +27,7 @@ fn byte(pair: &[u8]) -> Option<u8>
     Some(16 * digit(*high)? + digit(*low)?)
 }
 
-// The bytes that a text spells by two digits each, or none if it does not.
+// The bytes that a text spells by two digits each, or none if it does not. None is an answer here: the only error is that of memory.
 pub fn bytes(heap: Global, text: &[u8]) -> Result<Option<Vec<u8>>, AllocError>
     ensures spells { IfOk result (λ o. MatchOption o ((bs : List ℕ) → Spells text.now bs → ⊥) (λ v. Spells text.now v.items)) }
     ensures spelled { IfOk result (λ o. MatchOption o (spelled_by text.now ≡ None) (λ v. spelled_by text.now ≡ Some v.items)) }

@@ -34,6 +34,7 @@ struct Sums {
 }
 
 // What comes of the body of a message: the sums of its blocks before the last as read and as written, and the last block's mask and pad.
+// It holds no Sums, whose mask is the one before.
 #[derive(Clone, Copy)]
 struct Body {
     read: Block,

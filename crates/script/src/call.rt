@@ -1,7 +1,8 @@
 // What a line of a script says.
 use suite::{CipherSetting, MaskingSetting};
 
-// A call, with the station's name, the ticket's label and what else it takes. Space is the length of the output buffer.
+// A call, with the station's name, the ticket's label and what else it takes. Space is the length of the output buffer; the mode is a byte, as in
+// Station::seal.
 #[derive(Drop)]
 pub enum Call<'a> {
     Station {

@@ -57,7 +57,7 @@ impl From<FrameFault> for Halt {
     }
 }
 
-// What is printed for a call that was accepted, or for one that was refused.
+// What is printed for a call that was accepted, or for one that was refused. No Result: neither is an error to hand on, and both are counted.
 #[derive(Drop)]
 pub enum Reply {
     Accepted(String),

@@ -38,7 +38,7 @@ impl Member {
         Ok(answer)
     }
 
-    // Gives up every ticket that is still held.
+    // Gives up every ticket that is still held. They are taken out one by one: a map's into_iter asks for values that may be dropped.
     fn end(self) {
         let Member {
             mut station,
@@ -216,7 +216,7 @@ impl Stations {
         }
     }
 
-    // Ends every station.
+    // Ends every station, each taken out as a ticket is above.
     pub fn end(self) {
         let Stations {
             cipher: _cipher,

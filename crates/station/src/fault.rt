@@ -44,6 +44,7 @@ impl Refusal for StationFault {
 
     ghost reason_of = { station_reason };
 
+    // By a match, as a frame's: a case holds the frame's fault.
     fn number(&self) -> u8 {
         match self {
             StationFault::SameId => 3,

@@ -48,7 +48,7 @@ impl fmt::Display for ValveHead {
     }
 }
 
-// The key of 16 bytes that a word of 32 hexadecimal digits spells, or none if it does not.
+// The key of 16 bytes that a word of 32 hexadecimal digits spells, or none if it does not, which is no error as in hexadecimal::bytes.
 pub fn key(heap: Global, word: &str) -> Result<Option<[u8; 16]>, AllocError>
     ensures spells { IfOk result (λ o. MatchOption o ((bs : List ℕ) → length bs ≡ 16 → Spells word.now bs → ⊥) (λ k. Spells word.now k)) }
     ensures spelled { IfOk result (λ o. MatchOption o ((bs : List ℕ) → length bs ≡ 16 → spelled_by word.now ≢ Some bs) (λ k. spelled_by word.now ≡ Some k)) }
@@ -71,7 +71,7 @@ pub trait Decimal: FromStr {
     ghost laws: { (word : List ℕ) (r : Result Self Self.Err) → Self.from_str_gives word r → OkIff r (writes word) (value_of word) };
 }
 
-// Ids of the hub and of valve heads.
+// Each width has an impl of its own, since none may be written by a macro. Ids of the hub and of valve heads.
 impl Decimal for u8 {
     ghost writes = { WritesBelow (2 ^ 8) };
 

@@ -151,7 +151,7 @@ pub struct SealRow {
     pub tag: Block,
 }
 
-// A message and the whole frame that it is sealed into.
+// A message and the whole frame that it is sealed into. The mode is a number, as in a SealRow.
 #[derive(Drop)]
 pub struct FrameRow {
     pub mode: u8,
