@@ -57,7 +57,7 @@ impl<'a> PairCall for Sealing<'a> {
     }
 }
 
-// Seals over the pair that was chosen, and writes the tag.
+// Seals over the pair that was chosen, and writes the tag. Opening below begins likewise; what it takes and writes is another thing.
 fn seal(
     choice: Result<Choice<'_>, NotMade>,
     request: Request,

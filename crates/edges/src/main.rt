@@ -29,7 +29,7 @@ fn seal_next(station: &mut Plain, message: &[u8], out: &mut [u8]) -> Result<usiz
     station.seal(ticket, FORWARD, &[], message, out)
 }
 
-// Seals a message of so many bytes at a new station, and answers the frame's length.
+// Seals a message of so many bytes at a new station, and answers the frame's length. Arrays here and below: the size is what is tried.
 fn seal_long(len: usize) -> Result<usize, StationFault> {
     let message = [0xa5; 1025];
     let mut out = [0; LONGEST];

@@ -149,7 +149,7 @@ impl<C: Cipher + Drop> Talk<'_, C> {
         hear(self.rt, &mut self.hub, frame, self.task.offsets.as_slice())
     }
 
-    // The valve head hears a frame.
+    // The valve head hears a frame. Beside the hub's, since each borrows its own station next to the rest.
     fn valve_hears(&mut self, frame: &[u8]) -> anyhow::Result<()> {
         hear(
             self.rt,

@@ -78,7 +78,7 @@ impl<'a> Cursor<'a> {
         Ok(value::number(word, most)?)
     }
 
-    // The next word as a number from 0 to 255.
+    // The next word as a number from 0 to 255. This and the two below have one body in `at_most`; each is named for the field that it reads.
     pub fn byte(&mut self) -> Result<u8, Unread>
         ensures { Gives (λ n. record { value = count_value n; rest = self.new }) (first (value_of byte_field) self.old) result }
     {

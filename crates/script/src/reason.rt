@@ -27,7 +27,7 @@ pub enum Reason {
 }
 
 impl Reason {
-    // The reason in plain words.
+    // The reason in plain words, which is what it prints, for callers that need no allocation.
     pub fn text(self) -> &'static str
         ensures { result.now ≡ text_of self }
     {

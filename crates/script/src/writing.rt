@@ -9,7 +9,7 @@ use crate::call::Call;
 use std::alloc::{AllocError, Global};
 use std::fmt;
 
-// Bytes as pairs of hexadecimal digits, or - where there are none.
+// Bytes as pairs of hexadecimal digits, or - where there are none: the printing of a HexText, for callers that hold the text.
 pub fn hex_text(heap: Global, bytes: &[u8]) -> Result<String, AllocError>
     ensures { IfOk result (λ t. string_bytes t ≡ hex_text_of bytes.now) }
 {

@@ -43,7 +43,7 @@ impl Session {
         Ok(String::new(heap))
     }
 
-    // Reads a line and does what it says.
+    // Reads a line and does what it says. By a let else: with map_err, which was tried, the proof of what text the line is did not close.
     fn try_line(&mut self, heap: Global, bytes: &[u8]) -> Result<String, Unread>
         ensures { Tried bytes.now self.old.tally self.new.tally result }
     {

@@ -142,6 +142,7 @@ impl Stations {
         Ok(Answer::GivenUp)
     }
 
+    // The mode is a byte, as in Station::seal.
     fn seal(
         &mut self,
         name: &str,

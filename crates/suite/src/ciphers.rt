@@ -51,7 +51,7 @@ pub enum AnyCipher {
 }
 
 impl AnyCipher {
-    // The identity.
+    // The identity. Constructors and no `From`: they take a key, and name no further crate.
     pub fn identity() -> AnyCipher
         ensures forward { forward_of result ≡ same }
         ensures backward { backward_of result ≡ same }

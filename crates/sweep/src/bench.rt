@@ -198,7 +198,7 @@ impl<'c, 'n, C: Cipher, M: Masking> Bench<'c, 'n, C, M> {
         tally.note(tag == other && last(forward) == last(dual));
     }
 
-    // The cipher calls of a seal and an opening at these lengths.
+    // The cipher calls of a seal and an opening at these lengths. Its pieces are cut as in `run`: what is cut from an array here can't be handed out.
     pub fn count(&self, header: usize, message: usize) -> Calls {
         let header = &self.header[0..header.min(HEADER)];
         let message = &self.message[0..message.min(MESSAGE)];
