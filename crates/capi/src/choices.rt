@@ -1,4 +1,5 @@
-// The ciphers and maskings by their numbers, and a choice of both with its key.
+// The ciphers and maskings by their numbers, and a choice of both with its key. Enums of their own beside suite's settings: their values are C's
+// numbers, and a key is lent, not held.
 ghost use Rattle.std.specs.Prelude.{◌≡◌, length, IfOk};
 ghost use Rattle.capi.specs.declared.choices.NotMade.TheVariants.{UnknownMode as NoMode};
 ghost use Rattle.capi.specs.Choices.{CipherIs, Chooses, CipherOf, MaskingOf};

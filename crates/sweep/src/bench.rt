@@ -6,9 +6,8 @@ use crate::counting::Counting;
 use crate::tally::Tally;
 use block::{Block, Cut};
 use cipher::Cipher;
-use layer::Refusal;
 use masking::Masking;
-use mode::{Mode, Pair};
+use mode::{Mode, ModeFault, Pair};
 use std::cell::Cell;
 use std::{array, fmt};
 
@@ -143,14 +142,14 @@ impl<'c, 'n, C: Cipher, M: Masking> Bench<'c, 'n, C, M> {
         done.is_ok() && &*out == message && calls == promised(header.len(), sealed.len())
     }
 
-    // Whether opening is refused with fault 2 and leaves zeros. Each use changes another of the five values, so no struct holds them.
+    // Whether opening is refused because no message seals to the bytes, and leaves zeros. Each use changes another of the five values, so no struct holds them.
     fn refuses(&self, mode: Mode, header: &[u8], sealed: &[u8], tag: Block, out: &mut [u8]) -> bool
         ensures { T result → (k : ℕ) → k < length out.new → slice_index out.new k ≡ 0 }
     {
         out.fill(0xff);
         match self.pair.open(mode, NONCE, header, sealed, tag, out) {
-            Err(fault) => fault.number() == 2 && all_zero(out),
-            Ok(()) => false,
+            Err(ModeFault::NotSealed) => all_zero(out),
+            _ => false,
         }
     }
 
