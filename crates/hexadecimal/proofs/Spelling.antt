@@ -1,6 +1,6 @@
 -- What the pairs read so far say of the whole text.
-use Rattle.std.proofs.Common.{◌≡◌, ℕ, ◌<◌, min, List, [], ◌∷◌, ◌++◌, length, Some, None, Option, sym, refl, ap, ◌∙◌, append_assoc, append-nil, arith}
-use Rattle.hexadecimal.specs.Hex.{byte_in, before, spelled}
+use Rattle.std.proofs.Common.{◌≡◌, ℕ, ◌%◌, ◌<◌, min, List, [], ◌∷◌, ◌++◌, length, Some, None, Option, sym, refl, ap, ◌∙◌, append_assoc, append-nil, arith}
+use Rattle.hexadecimal.specs.Hex.{digit_of, byte_of, byte_in, before, spelled}
 
 -- bytes before what the rest of a text spells
 abbrev pub after : List ℕ → Option (List ℕ) → Option (List ℕ)
@@ -44,3 +44,15 @@ no_byte text xs rest pair left so parts long some none =
 pub all_read : (text xs rest : List ℕ) → spelled text ≡ after xs (spelled rest) → rest ≡ [] → spelled text ≡ Some xs
 unfolding spelled
 all_read text xs rest so none = so ∙ ap (λ (l : List ℕ). after xs (spelled l)) none ∙ ap Some (append-nil xs)
+
+before_none : (o : Option ℕ) → before o None ≡ None
+before_none None = refl
+before_none (Some b) = refl
+
+-- an odd number of characters spells nothing
+pub odd_none : (text : List ℕ) → length text % 2 ≡ 1 → spelled text ≡ None
+unfolding spelled
+odd_none [] h = absurd (let f : ⊥ = omega arith in f)
+odd_none (c ∷ []) h = refl
+odd_none (c ∷ d ∷ text) h =
+    ap (before (byte_of (digit_of c) (digit_of d))) (odd_none text (omega arith)) ∙ before_none (byte_of (digit_of c) (digit_of d))

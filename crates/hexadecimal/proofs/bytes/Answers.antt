@@ -20,6 +20,9 @@ returns-in_default-clause-spelled c =
 pub returns-in_default-clause-spells : goal.returns-in_default-clause-spells
 returns-in_default-clause-spells c = none_spells c.args.text.now (returns-in_default-clause-spelled c)
 
+pub returns-then-is_odd-clause-spells : goal.returns-then-is_odd-clause-spells
+returns-then-is_odd-clause-spells c = none_spells c.args.text.now (c.is_odd.ensures.nothing c.if-is_odd.true)
+
 pub returns-clause-spelled : goal.returns-clause-spelled
 returns-clause-spelled c = all_read c.args.text.now _ _ c.loop-pair.invariant.so_far (nil_from_length _ c.in-None.ensures.steps.1.0)
 
