@@ -209,8 +209,10 @@ fn read_text(heap: Global, text: &str) -> Result<Task, Unread> {
             .and_then(|entry| draft.take(entry))
             .map_err(|reason| Unread { line, reason })?;
     }
-    let line = text.lines().count();
-    draft.finish().map_err(|reason| Unread { line, reason })
+    draft.finish().map_err(|reason| Unread {
+        line: text.lines().count(),
+        reason,
+    })
 }
 
 // The line on which the byte behind so many others stands.

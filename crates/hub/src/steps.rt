@@ -75,12 +75,13 @@ fn hear<C: Cipher + Drop>(
     frame: &[u8],
     sent: &[Offset],
 ) -> anyhow::Result<()> {
-    let mut out = vec![in rt.alloc(); 0u8; MOST]?;
-    match station.open(frame, out.as_mut_slice()) {
+    // An array: a vector would want memory, for a frame that is refused too.
+    let mut out = [0u8; MOST];
+    match station.open(frame, &mut out) {
         Err(fault) => println!(rt; "   refused {fault}")?,
         Ok(opened) => {
-            out.truncate(opened.length);
-            let offsets = task::unpack(rt.alloc(), out.as_slice())?;
+            let message = &out[0..opened.length.min(MOST)];
+            let offsets = task::unpack(rt.alloc(), message)?;
             println!(rt; "   accepted under number {}:", opened.number)?;
             list(rt, offsets.as_slice())?;
             if offsets.as_slice() == sent {
