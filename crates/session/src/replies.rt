@@ -35,8 +35,8 @@ impl From<AllocError> for Halt {
     }
 }
 
-impl From<AllocFailed<String>> for Halt {
-    fn from(failed: AllocFailed<String>) -> Halt {
+impl<T: Drop> From<AllocFailed<T>> for Halt {
+    fn from(failed: AllocFailed<T>) -> Halt {
         Halt::from(AllocError::from(failed))
     }
 }

@@ -1,6 +1,7 @@
 // Named stations, the tickets that they handed out, and the calls on them.
-ghost use Rattle.std.specs.Prelude.{OnOk, IsSome};
+ghost use Rattle.std.specs.Prelude.{◌≡◌, IfOk, OnOk, IsSome, replicate};
 ghost use Rattle.std.specs.BTreeMap.{get_by_text};
+ghost use Rattle.std.specs.Map.{keys_of};
 ghost use Rattle.session.specs.Counting.{NoStations};
 
 use crate::replies::{Halt, Reply};
@@ -17,9 +18,9 @@ use std::collections::btree_map::Entry;
 use suite::{AnyCipher, AnyMasking};
 
 // A station, and the tickets that it handed out and that are still held, each by the label that the script gave it. A ticket is linear, since it has
-// to be spent.
+// to be spent. The station lies in a box, since a map keeps room for more members than it holds.
 struct Member {
-    station: Station<AnyCipher, AnyMasking>,
+    station: Box<Station<AnyCipher, AnyMasking>>,
     held: BTreeMap<String, Ticket>,
 }
 
@@ -97,6 +98,10 @@ impl Stations {
         start: u64,
         floor: u64,
     ) -> Result<Answer, Halt> {
+        // Asked first, since a name that is used needs neither memory nor a key's expansion.
+        if self.members.contains_key(name) {
+            return Err(Halt::from(Reason::UsedName));
+        }
         let pair = Pair::new(AnyCipher::from(self.cipher), self.masking.into());
         let name = String::from_str(heap, name)?;
         let Entry::Vacant(place) = self.members.entry(name)? else {
@@ -104,7 +109,7 @@ impl Stations {
         };
         let station = Station::new(pair, own, peer, start, floor)?;
         place.insert(Member {
-            station,
+            station: Box::new(heap, station)?,
             held: BTreeMap::new(heap),
         });
         Ok(Answer::Made)
@@ -124,7 +129,8 @@ impl Stations {
 
     // Hands out the ticket of a label, whichever station made it, for a call on the station of a name.
     fn take(&mut self, name: &str, label: &str) -> Result<Ticket, Reason>
-        ensures { OnOk result (IsSome (get_by_text self.new.members name.now)) }
+        ensures known { OnOk result (IsSome (get_by_text self.new.members name.now)) }
+        ensures names { keys_of self.new.members.entries ≡ keys_of self.old.members.entries }
     {
         if !self.members.contains_key(name) {
             return Err(Reason::UnknownStation);
@@ -140,6 +146,17 @@ impl Stations {
         let member = self.members.get_mut(name).unwrap();
         member.station.give_up(ticket)?;
         Ok(Answer::GivenUp)
+    }
+
+    // The output buffer of a call on the station of a name: each byte is ee. Without the station there is none, and no memory is taken.
+    fn room(&self, heap: Global, name: &str, space: usize) -> Result<Vec<u8>, Unread>
+        ensures known { OnOk result (IsSome (get_by_text self.now.members name.now)) }
+        ensures filled { IfOk result (λ out. out.items ≡ replicate space 0xee) }
+    {
+        if !self.members.contains_key(name) {
+            return Err(Unread::Because(Reason::UnknownStation));
+        }
+        Ok(vec![in heap; 0xee; space]?)
     }
 
     // The mode is a byte, as in Station::seal.
@@ -196,7 +213,7 @@ impl Stations {
                 message,
                 space,
             } => {
-                let mut out = vec![in heap; 0xee; *space]?;
+                let mut out = self.room(heap, name, *space)?;
                 let answer = self.seal(
                     name,
                     ticket,
@@ -208,7 +225,7 @@ impl Stations {
                 Reply::new(heap, answer)?.with_output(heap, out.as_slice())
             }
             Call::Open { name, frame, space } => {
-                let mut out = vec![in heap; 0xee; *space]?;
+                let mut out = self.room(heap, name, *space)?;
                 let answer = self.open(name, frame.as_slice(), out.as_mut_slice());
                 Reply::new(heap, answer)?.with_output(heap, out.as_slice())
             }
