@@ -1,11 +1,12 @@
 // Hexadecimal text: read as the bytes that it spells, and written of bytes.
 #![tactic(auto)]
 
-ghost use Rattle.std.specs.Prelude.{◌≡◌, ℕ, ◌%◌, ◌<◌, true, false, List, [], ◌∷◌, length, IfOk, Some, None, string_bytes, MatchOption};
+ghost use Rattle.std.specs.Prelude.{◌≡◌, ℕ, ◌*◌, ◌%◌, ◌<◌, ◌≤◌, true, false, List, take, length, IfOk, Some, None, string_bytes, MatchOption};
 ghost use Rattle.hexadecimal.specs.Hex.{digit_of, byte_in, Spells, spelled as spelled_by, hex_char, hex_digits, Written};
 
 use std::alloc::{AllocError, Global};
 use std::fmt;
+use std::str::from_utf8;
 
 // The value of a hexadecimal digit, small letter or capital. By ranges: a character's to_digit answers 32 bits, which would have to be narrowed.
 pub fn digit(character: u8) -> Option<u8>
@@ -58,40 +59,50 @@ pub fn bytes(heap: Global, text: &[u8]) -> Result<Option<Vec<u8>>, AllocError>
 #[derive(Clone, Copy)]
 pub struct Digits<'a>(pub &'a [u8]);
 
+// How many bytes are printed at a time.
+const GROUP: usize = 32;
+
 // The digit of a value, small letters from ten on.
-fn digit_text(value: u8) -> &'static str
+fn character(value: u8) -> u8
     requires { value < 16 }
-    ensures { result.now ≡ hex_char value ∷ [] }
+    ensures { result ≡ hex_char value }
 {
-    match value {
-        0 => "0",
-        1 => "1",
-        2 => "2",
-        3 => "3",
-        4 => "4",
-        5 => "5",
-        6 => "6",
-        7 => "7",
-        8 => "8",
-        9 => "9",
-        10 => "a",
-        11 => "b",
-        12 => "c",
-        13 => "d",
-        14 => "e",
-        _ => "f",
+    if value < 10 {
+        b'0' + value
+    } else {
+        b'a' + (value - 10)
     }
+}
+
+// The digits of a group of bytes, at the front of the array.
+fn group_digits(group: &[u8]) -> [u8; 64]
+    requires { length group.now ≤ 32 }
+    ensures { take (2 * length group.now) result ≡ hex_digits group.now }
+{
+    let mut digits = [0; 64];
+    for (i, byte) in group.iter().enumerate() {
+        digits[2 * i] = character(*byte / 16);
+        digits[2 * i + 1] = character(*byte % 16);
+    }
+    digits
+}
+
+// Digits as a text.
+fn as_text(digits: &[u8]) -> Result<&str, fmt::Error>
+    ensures { IfOk result (λ text. text.now ≡ digits.now) }
+{
+    from_utf8(digits).map_err(|_| fmt::Error)
 }
 
 impl fmt::Display for Digits<'_> {
     ghost output = { λ d. Some (hex_digits d.0.now) };
 
+    // A group at a time: a text for each byte takes twice the time.
     fn fmt<W: fmt::Write>(&self, f: &mut fmt::Formatter<W>) -> fmt::Result {
-        for &byte in self.0 {
-            let high = digit_text(byte / 16);
-            let low = digit_text(byte % 16);
-            f.write_str(high)?;
-            f.write_str(low)?;
+        for group in self.0.chunks(GROUP) {
+            let digits = group_digits(group);
+            let text = as_text(&digits[..2 * group.len()])?;
+            f.write_str(text)?;
         }
         Ok(())
     }
