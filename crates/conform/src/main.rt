@@ -7,9 +7,18 @@ use std::io::{BufRead, BufReader};
 // Follows every line of the input and prints what it answers.
 fn follow_all(rt: &HostRuntime, session: &mut Session) -> anyhow::Result<()> {
     let heap = rt.alloc();
-    let input = BufReader::new(heap, rt.stdin())?;
-    for (number, line) in (1..u64::MAX).zip(input.split(heap, b'\n')) {
-        let text = session.follow(heap, number, line?.as_slice())?;
+    let mut input = BufReader::new(heap, rt.stdin())?;
+    // One buffer for all lines: the library's split wants memory for each.
+    let mut line = Vec::new(heap);
+    for number in 1..u64::MAX {
+        line.clear();
+        if input.read_until(b'\n', &mut line)? == 0 {
+            break;
+        }
+        if line.last() == Some(&b'\n') {
+            line.pop();
+        }
+        let text = session.follow(heap, number, line.as_slice())?;
         rt.print(text.as_str())?;
     }
     Ok(())
