@@ -204,15 +204,16 @@ fn read_text(heap: Global, text: &str) -> Result<Task, Unread> {
         number: None,
         offsets: Vec::new(heap),
     };
+    let mut last = 0;
     for (line, words) in (1usize..).zip(text.lines()) {
+        last = line;
         read_line(heap, words)
             .and_then(|entry| draft.take(entry))
             .map_err(|reason| Unread { line, reason })?;
     }
-    draft.finish().map_err(|reason| Unread {
-        line: text.lines().count(),
-        reason,
-    })
+    draft
+        .finish()
+        .map_err(|reason| Unread { line: last, reason })
 }
 
 // The line on which the byte behind so many others stands.
