@@ -98,18 +98,18 @@ impl Stations {
         start: u64,
         floor: u64,
     ) -> Result<Answer, Halt> {
-        // Asked first, since a name that is used needs neither memory nor a key's expansion.
+        // Asked first, since a name that is used needs neither memory nor a key's expansion. A station that is refused takes no place in the map.
         if self.members.contains_key(name) {
             return Err(Halt::from(Reason::UsedName));
         }
-        let pair = Pair::new(AnyCipher::from(self.cipher), self.masking.into());
         let name = String::from_str(heap, name)?;
+        let pair = Pair::new(AnyCipher::from(self.cipher), self.masking.into());
+        let station = Box::new(heap, Station::new(pair, own, peer, start, floor)?)?;
         let Entry::Vacant(place) = self.members.entry(name)? else {
             return Err(Halt::from(Reason::UsedName));
         };
-        let station = Station::new(pair, own, peer, start, floor)?;
         place.insert(Member {
-            station: Box::new(heap, station)?,
+            station,
             held: BTreeMap::new(heap),
         });
         Ok(Answer::Made)
